@@ -1,0 +1,47 @@
+// INT and the value of a number word.
+ghost use mathlib.Core.Path.{_≡_};
+ghost use Prim.Native.Nat.{min};
+ghost use lib.IntN.{pos};
+ghost use Rattle.numbers.specs.Int.{inInt};
+ghost use Rattle.numbers.specs.Number.{decimal, intOf};
+
+// The whole numbers that a variable of kind INT can hold.
+pub type Int = i16;
+
+// The number that the digits write, or 32,769 where that is more.
+fn magnitude(digits: &[u8]) -> i32
+    ensures { λ r. ⌜ r ≡ pos (min (decimal (now (digits .entry))) 32769) ⌝ }
+{
+    let mut value: u32 = 0;
+    for b in digits {
+        value = (value * 10 + b.saturating_sub(b'0') as u32).min(32_769);
+    }
+    value as i32
+}
+
+// The number itself where it is an INT.
+pub fn fit(value: i32) -> Option<Int>
+    ensures { λ r. ⌜ r ≡ inInt value ⌝ }
+{
+    if Int::MIN as i32 <= value && value <= Int::MAX as i32 {
+        Some(value as Int)
+    } else {
+        None
+    }
+}
+
+// The INT that a number word stands for: a first byte, minus or digit, and the rest, of any length.
+pub fn value(word: &[u8]) -> Option<Int>
+    ensures { λ r. ⌜ r ≡ intOf (now (word .entry)) ⌝ }
+{
+    match word {
+        [] => Some(0),
+        [first, rest @ ..] => {
+            if *first == b'-' {
+                fit(-magnitude(rest))
+            } else {
+                fit(magnitude(word))
+            }
+        }
+    }
+}
