@@ -1,0 +1,4 @@
+pub mod Records
+pub mod Names
+pub mod Tokens
+pub mod Grammar
