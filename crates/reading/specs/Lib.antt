@@ -1,0 +1,4 @@
+pub mod Faults
+pub mod Names
+pub mod Drafts
+pub mod Statements

@@ -1,0 +1,10 @@
+// A program in the making.
+use syntax::grammar::Stage;
+
+// The stage that the text has come to, and how many records are in use.
+#[derive(Clone, Copy)]
+pub struct Progress {
+    pub stage: Stage,
+    pub variables: usize,
+    pub statements: usize,
+}
