@@ -1,2 +1,4 @@
 pub mod Finding
 pub mod Rooms
+pub mod Turns
+pub mod Aims

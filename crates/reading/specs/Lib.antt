@@ -2,3 +2,4 @@ pub mod Faults
 pub mod Names
 pub mod Drafts
 pub mod Statements
+pub mod Reading

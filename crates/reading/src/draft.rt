@@ -8,3 +8,10 @@ pub struct Progress {
     pub variables: usize,
     pub statements: usize,
 }
+
+// How many records a program uses.
+#[derive(Clone, Copy)]
+pub struct Extent {
+    pub variables: usize,
+    pub statements: usize,
+}

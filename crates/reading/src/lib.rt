@@ -2,5 +2,7 @@
 mod apply;
 pub mod draft;
 pub mod fault;
+pub mod fill;
 pub mod names;
 mod statement;
+mod targets;
