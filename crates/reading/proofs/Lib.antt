@@ -2,3 +2,5 @@ pub mod Finding
 pub mod Rooms
 pub mod Turns
 pub mod Aims
+pub mod Sound
+pub mod Whole

@@ -127,7 +127,7 @@ applied text d name (Declare class) = ifNew text d name (ifVariableFits d (name 
 applied text d name (Keep declaration) = ifVariableFits d (declaration .name .place) (withVariable d (declaredAs declaration) (Block (declaration .class)))
 applied text d name (Begin command) = ifStatementFits d (name .place) (begunWith d (name .place) command)
 applied text d name Label = ifNew text d name (ifStatementFits d (name .place) (withStatement d (record { operation = operation.Label name; place = name .place }) LabelColon))
-applied text d name (Complete o place) = completed d o place
+applied text d name (Complete o k place) = completed d (operation.Apply o (operand.Constant k)) place
 applied text d name (Use o place) = completedBy d (λ i. operation.Apply o (operand.Variable i)) place (variableAt text (declaredIn d) name)
 applied text d name (Change s place) = completedBy d (λ i. operation.Store s i) place (variableAt text (declaredIn d) name)
 applied text d name (Aim j place) = completed d (operation.Jump j (record { name = name; statement = 0 })) place

@@ -3,3 +3,4 @@ pub mod Names
 pub mod Drafts
 pub mod Statements
 pub mod Reading
+pub mod Formed

@@ -240,13 +240,10 @@ pub(crate) fn apply(
         Step::Keep(declaration) => keep_variable(variables, progress, declaration),
         Step::Begin(command) => begin(statements, progress, name.place, command),
         Step::Label => label(text, variables, statements, progress, name),
-        Step::Complete(operation, place) => keep_statement(
-            statements,
-            progress,
-            operation,
-            place,
-            Stage::Body,
-        ),
+        Step::Complete(operator, constant, place) => {
+            let operation = Operation::Apply(operator, Operand::Constant(constant));
+            keep_statement(statements, progress, operation, place, Stage::Body)
+        }
         Step::Use(operator, place) => {
             let index = variable(text, &variables[0..used], name)?;
             keep_statement(

@@ -4,6 +4,7 @@ ghost use lib.ListN.{length, replicate};
 ghost use Rattle.std.specs.Results.{Cases};
 ghost use Rattle.syntax.specs.Records.{noVariable, noStatement};
 ghost use Rattle.reading.specs.Drafts.{draftOf, drafted, Fits};
+ghost use Rattle.reading.specs.Formed.{Filled};
 ghost use Rattle.reading.specs.Reading.{start, taken, finished, onward, filledIs, extentOf, reading, ReadAs};
 use crate::apply::apply;
 use crate::draft::Extent;
@@ -64,8 +65,8 @@ fn clear(variables: &mut [Variable], statements: &mut [Statement])
     statements.fill(Statement::BLANK);
 }
 
-// Fills the records from a text, and blanks the rest; a refused text leaves them all blank.
-pub fn fill(
+// The same of any records: a refused text leaves them all blank.
+fn fill_any(
     text: &[u8],
     variables: &mut [Variable],
     statements: &mut [Statement],
@@ -83,4 +84,16 @@ pub fn fill(
             Err(fault)
         }
     }
+}
+
+// Fills the records from a text, and blanks the rest; a refused text leaves them all blank.
+pub fn fill(
+    text: &[u8],
+    variables: &mut [Variable],
+    statements: &mut [Statement],
+) -> Result<Extent, ProgramFault>
+    ensures is { λ r. ⌜ ReadAs (reading (now (text .entry)) (length (now (variables .entry))) (length (now (statements .entry)))) r (now (variables .exit)) (now (statements .exit)) ⌝ }
+    ensures filled { λ r. ⌜ Cases r (λ e. Filled e (now (variables .exit)) (now (statements .exit))) (λ _. Unit {0}) ⌝ }
+{
+    fill_any(text, variables, statements)
 }

@@ -10,8 +10,6 @@ use Rattle.syntax.specs.declared.record.Name.{Name}
 use Rattle.syntax.specs.declared.record.Class.{Class}
 use Rattle.syntax.specs.declared.record.Constant.{Constant}
 use Rattle.syntax.specs.declared.record.Constant.the-variants.{Bool, Int}
-use Rattle.syntax.specs.declared.record.Operand.the-variants as operand
-use Rattle.syntax.specs.declared.record.Operation.the-variants as operation
 use Rattle.syntax.specs.declared.record.Declaration.{Declaration}
 use Rattle.syntax.specs.declared.token.Sign.the-variants as g
 use Rattle.syntax.specs.declared.token.Token.{Token}
@@ -130,7 +128,7 @@ afterLabel (t.Command c) = None
 -- most operators take a variable or a constant of either kind
 abbrev pub atValue : Operator → ℕ → Token → Option Step
 atValue o p t.Name = Some (Use o p)
-atValue o p (t.Constant k) = Some (Complete (operation.Apply o (operand.Constant k)) p)
+atValue o p (t.Constant k) = Some (Complete o k p)
 atValue o p (t.Sign g) = None
 atValue o p (t.Block b) = None
 atValue o p t.EndBlock = None

@@ -11,8 +11,6 @@ use crate::record::Constant;
 use crate::record::Declaration;
 use crate::record::Kind;
 use crate::record::Name;
-use crate::record::Operand;
-use crate::record::Operation;
 use crate::token::Sign;
 use crate::token::Token;
 
@@ -59,7 +57,7 @@ pub enum Step {
     // it names a new label, which is a statement
     Label,
     // it is the constant that completes the statement that began at a place
-    Complete(Operation, usize),
+    Complete(Operator, Constant, usize),
     // it names the variable that completes such a statement
     Use(Operator, usize),
     Change(Store, usize),
@@ -192,10 +190,7 @@ fn at_value(operator: Operator, place: usize, token: Token) -> Option<Step>
     ensures { λ r. ⌜ r ≡ atValue operator place token ⌝ }
 {
     match token {
-        Token::Constant(constant) => Some(Step::Complete(
-            Operation::Apply(operator, Operand::Constant(constant)),
-            place,
-        )),
+        Token::Constant(constant) => Some(Step::Complete(operator, constant, place)),
         Token::Name => Some(Step::Use(operator, place)),
         _ => None,
     }
