@@ -1,3 +1,5 @@
 pub mod Blanks
 pub mod Gaps
 pub mod Longest
+pub mod Lawful
+pub mod Places

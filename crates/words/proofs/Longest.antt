@@ -198,37 +198,44 @@ module _ (text : List ℕ) (q : ℕ) (h : q < length text) where
   here k.Minus c =
       cond-both (asciiDigit (getD text (q + 1) 0)) (numberAt text q) (Err (Stray q)) (Here text q)
       (λ d.
-          let some = some-digit rest (ap asciiDigit next ∙ d) in
-          let digits = digits-from (take (n r.Digits) rest) (omega (arith, behind r.Digits)) (all-leading asciiDigit rest) in
-          number-here (inr (take (n r.Digits) rest, ap (λ x. x ∷ take (n r.Digits) rest) (is-minus b c), digits)) (λ x front back i v. most k.Minus c x front back i v .1))
+      let some = some-digit rest (ap asciiDigit next ∙ d) in
+      let digits = digits-from (take (n r.Digits) rest) (omega (arith, behind r.Digits)) (all-leading asciiDigit rest) in
+      number-here (inr (take (n r.Digits) rest, ap (λ x. x ∷ take (n r.Digits) rest) (is-minus b c), digits)) (λ x front back i v. most k.Minus c x front back i v .1))
       (λ d. (refl, λ x front back i v. both-ways (asciiDigit (getD text (q + 1) 0)) d (ap asciiDigit (sym next) ∙ most k.Minus c x front back i v .0)))
   here k.Colon c =
       cond-both (eqb (getD text (q + 1) 0) 61) (Ok (assign, q + 2)) (Ok (colon, q + 1)) (Here text q)
       (λ d.
-          let i = eqb-true (getD text (q + 1) 0) 61 d in
-          let l = stands text (q + 1) (omega arith) in
-          (record {
-            bytes = 58 ∷ 61 ∷ [];
-            word = refl;
-            is = two text q l ∙ (λ j. is-colon b c j ∷ i j ∷ drop (q + 2) text);
-            ends = omega arith;
-            longest = λ x front back e v. ⊎-elim (λ m. omega (arith, m)) (λ m. m .1) (most k.Colon c x front back e v);
-          }, tt))
-      (λ d.
-          (record {
-            bytes = 58 ∷ [];
-            word = refl;
-            is = split ∙ ap (λ x. x ∷ rest) (is-colon b c);
-            ends = omega arith;
-            longest = λ x front back e v. ⊎-elim (λ m. m) (λ m. absurd (eqb-false (getD text (q + 1) 0) 61 d (sym next ∙ m .0))) (most k.Colon c x front back e v);
-          }, tt))
-  here k.Semicolon c = (record {
-    bytes = 59 ∷ [];
-    word = refl;
-    is = split ∙ ap (λ x. x ∷ rest) (is-semicolon b c);
-    ends = omega arith;
-    longest = most k.Semicolon c;
-  }, tt)
+      let i = eqb-true (getD text (q + 1) 0) 61 d in
+      let l = stands text (q + 1) (omega arith) in (
+        record {
+          bytes = 58 ∷ 61 ∷ [];
+          word = refl;
+          is = two text q l ∙ (λ j. is-colon b c j ∷ i j ∷ drop (q + 2) text);
+          ends = omega arith;
+          longest = λ x front back e v. ⊎-elim (λ m. omega (arith, m)) (λ m. m .1) (most k.Colon c x front back e v);
+        },
+        tt,
+      ))
+      (λ d. (
+        record {
+          bytes = 58 ∷ [];
+          word = refl;
+          is = split ∙ ap (λ x. x ∷ rest) (is-colon b c);
+          ends = omega arith;
+          longest = λ x front back e v. ⊎-elim (λ m. m) (λ m. absurd (eqb-false (getD text (q + 1) 0) 61 d (sym next ∙ m .0))) (most k.Colon c x front back e v);
+        },
+        tt,
+      ))
+  here k.Semicolon c = (
+    record {
+      bytes = 59 ∷ [];
+      word = refl;
+      is = split ∙ ap (λ x. x ∷ rest) (is-semicolon b c);
+      ends = omega arith;
+      longest = most k.Semicolon c;
+    },
+    tt,
+  )
   here k.Other c = (refl, most k.Other c)
 
   -- what stands at the place, and that it is as long as it can be

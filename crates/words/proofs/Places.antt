@@ -1,0 +1,61 @@
+-- Where the next word begins and ends, and which bytes of the text it has.
+use mathlib.Core.Path.{_≡_, refl, sym, ap, subst, _∙_}
+use mathlib.Core.List.{List, [], _∷_, _++_}
+use mathlib.Core.Logic.{⊎-elim}
+use Prim.Native.Nat.{ℕ, _+_, _-_, _<_, _≤_}
+use native.Mathlib.Omega.{arith}
+use lib.ListN.{length, take, drop}
+use Rattle.std.specs.Holes.{between}
+use Rattle.std.specs.declared.option.Option.{Option}
+use Rattle.std.specs.declared.option.Option.the-variants.{Some, None}
+use Rattle.std.specs.declared.result.Result.{Result}
+use Rattle.std.specs.declared.result.Result.the-variants.{Ok, Err}
+use Rattle.std.proofs.shelf.Fronts.{front-rest}
+use Rattle.std.proofs.shelf.Lists.{drop-drop, take-at, length-append, length-drop}
+use Rattle.words.specs.Words.{Lexeme, name, number, colon, semicolon, assign, nextAt}
+use Rattle.words.specs.Laws.{IsDigits, IsWord, Found, Inside, Lawful}
+use Rattle.words.proofs.Lawful.{lawful}
+
+-- a word has a byte
+some-byte : (lexeme : Lexeme) (bytes : List ℕ) → IsWord lexeme bytes → 0 < length bytes
+some-byte (name w) [] h = absurd (h .1)
+some-byte (name w) (b ∷ bytes) h = omega arith
+some-byte (number w) bytes h = ⊎-elim (digits bytes) (λ d. omega (arith, ap length (d .1))) (h .1)
+  where
+    digits : (bytes : List ℕ) → IsDigits bytes → 0 < length bytes
+    digits [] d = absurd d
+    digits (b ∷ bytes) d = omega arith
+some-byte colon bytes h = omega (arith, ap length h)
+some-byte semicolon bytes h = omega (arith, ap length h)
+some-byte assign bytes h = omega (arith, ap length h)
+
+module _ (text : List ℕ) (p q : ℕ) (w : Lexeme) (e : ℕ) where
+  pub found : nextAt text p ≡ Ok (Some (q, w, e)) → Found text p q w e × Inside w
+  unfolding Lawful
+  found i = subst (Lawful text p) i (lawful text p)
+
+  -- the next word stands behind the old place, has a byte, and ends inside the text
+  pub in-order : nextAt text p ≡ Ok (Some (q, w, e)) → (p ≤ q) × (q < e) × (e ≤ length text)
+  in-order i =
+      let f = found i .0 in
+      let some = some-byte w (f .bytes) (f .word) in
+      let long = ap length (f .joined) ∙ length-append (f .gap) (f .bytes ++ drop e text) in
+      (omega arith, omega arith, omega (arith, long, length-append (f .bytes) (drop e text), length-drop p text, length-drop e text))
+
+  -- the word's bytes are those of the text from its place up to its end
+  bytes-between : (f : Found text p q w e) → f .bytes ≡ between q e text
+  bytes-between f =
+      let r = sym (front-rest (drop p text) (f .gap) (f .bytes ++ drop e text) (f .joined)) ∙ drop-drop (length (f .gap)) p text ∙ ap (λ n. drop n text) (sym (f .begins)) in
+      sym (ap (take (e - q)) (sym r) ∙ take-at (f .bytes) (drop e text) (e - q) (omega arith))
+
+-- a name's bytes, and how many they are
+pub name-bytes : (text : List ℕ) (p q : ℕ) (w : List ℕ) (e : ℕ) → nextAt text p ≡ Ok (Some (q, name w, e)) → (w ≡ between q e text) × (length w ≡ e - q)
+name-bytes text p q w e i =
+    let f = found text p q (name w) e i .0 in
+    (f .word .0 ∙ bytes-between text p q (name w) e f, omega (arith, ap length (f .word .0)))
+
+-- a number's bytes, and how many they are
+pub number-bytes : (text : List ℕ) (p q : ℕ) (w : List ℕ) (e : ℕ) → nextAt text p ≡ Ok (Some (q, number w, e)) → (w ≡ between q e text) × (length w ≡ e - q)
+number-bytes text p q w e i =
+    let f = found text p q (number w) e i .0 in
+    (f .word .0 ∙ bytes-between text p q (number w) e f, omega (arith, ap length (f .word .0)))
