@@ -45,3 +45,30 @@ pub fn value(word: &[u8]) -> Option<Int>
         }
     }
 }
+
+#[cfg(test)]
+mod tests {
+    use super::*;
+    use std::test::*;
+
+    #[test]
+    fn values_of_number_words() -> Result<(), Fail> {
+        let cases = [
+            ("0", Some(0)),
+            ("-0", Some(0)),
+            ("007", Some(7)),
+            ("32767", Some(32767)),
+            ("32768", None),
+            ("-32768", Some(-32768)),
+            ("-32769", None),
+            ("-00000000000000000000032768", Some(-32768)),
+            ("4294967296", None),
+            ("18446744073709551616", None),
+        ];
+        for (word, expected) in cases {
+            check_eq(value(word.as_bytes()), expected)?;
+        }
+        check_eq(value(&[b'0'; 5000]), Some(0))?;
+        check_eq(value(&[b'9'; 5000]), None)
+    }
+}
