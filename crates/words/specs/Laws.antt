@@ -16,7 +16,7 @@ use Rattle.numbers.specs.Number.{written}
 use Rattle.words.specs.declared.word.WordFault.{WordFault}
 use Rattle.words.specs.declared.word.WordFault.the-variants.{Stray, Unclosed, OutsideInt}
 use Rattle.words.specs.Bytes.{blank, beginsName, inName, opens}
-use Rattle.words.specs.Words.{Lexeme, name, number, colon, semicolon, assign}
+use Rattle.words.specs.Words.{Lexeme, name, number, colon, semicolon, assign, nextAt}
 
 -- `*)` (42 and 41) stands nowhere in these bytes
 abbrev pub NeverCloses : List ℕ → Type 0
@@ -98,3 +98,7 @@ Lawful text old (Ok (Some x)) = Found text old (x .0) (x .1) (x .2) × Inside (x
 Lawful text old (Err (Stray p)) = Reached text old p × BeginsNothing text p
 Lawful text old (Err (Unclosed p)) = Reached text old p × NeverEnds text p
 Lawful text old (Err (OutsideInt p)) = (w : List ℕ) × (new : ℕ) × Found text old p (number w) new × (isInt (written w) ≡ false)
+
+-- the next word of every text keeps these laws
+abbrev pub KeepsLaws : Type 0
+KeepsLaws = (text : List ℕ) (old : ℕ) (answer : Result (Option (ℕ × Lexeme × ℕ)) WordFault) → answer ≡ nextAt text old → Lawful text old answer

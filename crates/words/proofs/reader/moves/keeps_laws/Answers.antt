@@ -1,0 +1,5 @@
+use Rattle.words.proofs.Lawful.{lawful-answer}
+use Rattle.words.proofs.reader.moves.keeps_laws.Needs as need
+
+pub returns : need.returns
+returns c = lawful-answer
