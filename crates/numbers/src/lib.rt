@@ -1,7 +1,8 @@
 // INT and the value of a number word.
 ghost use mathlib.Core.Path.{_≡_};
-ghost use Prim.Native.Nat.{min};
+ghost use Prim.Native.Nat.{_<_, min};
 ghost use lib.IntN.{pos};
+ghost use lib.ListN.{length, getD};
 ghost use Rattle.numbers.specs.Int.{inInt};
 ghost use Rattle.numbers.specs.Number.{decimal, intOf};
 
@@ -30,17 +31,33 @@ pub fn fit(value: i32) -> Option<Int>
     }
 }
 
+// The INT that a minus and digits write.
+fn negative(word: &[u8]) -> Option<Int>
+    requires { ⌜ 0 < length (now word) ⌝ ∗ ⌜ getD (now word) 0 0 ≡ 45 ⌝ }
+    ensures { λ r. ⌜ r ≡ intOf (now (word .entry)) ⌝ }
+{
+    fit(-magnitude(&word[1..]))
+}
+
+// The INT that digits alone write.
+fn plain(word: &[u8]) -> Option<Int>
+    requires { ⌜ (getD (now word) 0 0 ≡ 45 → ⊥) ⌝ }
+    ensures { λ r. ⌜ r ≡ intOf (now (word .entry)) ⌝ }
+{
+    fit(magnitude(word))
+}
+
 // The INT that a number word stands for: a first byte, minus or digit, and the rest, of any length.
 pub fn value(word: &[u8]) -> Option<Int>
     ensures { λ r. ⌜ r ≡ intOf (now (word .entry)) ⌝ }
 {
     match word {
         [] => Some(0),
-        [first, rest @ ..] => {
+        [first, ..] => {
             if *first == b'-' {
-                fit(-magnitude(rest))
+                negative(word)
             } else {
-                fit(magnitude(word))
+                plain(word)
             }
         }
     }
