@@ -77,7 +77,7 @@ past-byte p b left (Err (OutsideInt q)) e h = h
 opens-is : (b c : ℕ) → opens b c ≡ true → (b ≡ 40) × (c ≡ 42)
 opens-is b c e = let h = and-parts (eqb b 40) (eqb c 42) e in (eqb-true b 40 (h .0), eqb-true c 42 (h .1))
 
-closes-is : (b c : ℕ) → closes b c ≡ true → (b ≡ 42) × (c ≡ 41)
+pub closes-is : (b c : ℕ) → closes b c ≡ true → (b ≡ 42) × (c ≡ 41)
 closes-is b c e = let h = and-parts (eqb b 42) (eqb c 41) e in (eqb-true b 42 (h .0), eqb-true c 41 (h .1))
 
 opened : (b c : ℕ) (left : List ℕ) → opens b c ≡ true → _≡_ {A = List ℕ} (b ∷ c ∷ left) (40 ∷ 42 ∷ left)

@@ -3,3 +3,4 @@ pub mod Gaps
 pub mod Longest
 pub mod Lawful
 pub mod Places
+pub mod Only

@@ -49,10 +49,10 @@ Most k.Semicolon rest n = n ≤ 1
 Most k.Other rest n = ⊥
 
 -- the classes of the first bytes
-of-letter : (b : ℕ) → beginsName b ≡ true → classOf b ≡ k.Letter
+pub of-letter : (b : ℕ) → beginsName b ≡ true → classOf b ≡ k.Letter
 of-letter b e = cond-true (beginsName b) _ _ e
 
-of-digit : (b : ℕ) → asciiDigit b ≡ true → classOf b ≡ k.Digit
+pub of-digit : (b : ℕ) → asciiDigit b ≡ true → classOf b ≡ k.Digit
 of-digit b e = grind (arith, tells)
 
 is-letter : (b : ℕ) → classOf b ≡ k.Letter → beginsName b ≡ true
@@ -119,6 +119,19 @@ module _ (b : ℕ) (rest : List ℕ) where
       let i = parts b rest 58 (61 ∷ []) back (e ∙ ap (λ l. l ++ back) h) in
       let m : Most k.Colon rest (length front) = inr (ap (λ l. getD l 0 0) (i .1), omega (arith, ap length h)) in
       subst (λ c. Most (classOf c) rest (length front)) (i .0) m
+
+-- a word has a byte
+pub some-byte : (lexeme : Lexeme) (bytes : List ℕ) → IsWord lexeme bytes → 0 < length bytes
+some-byte (name w) [] h = absurd (h .1)
+some-byte (name w) (b ∷ bytes) h = omega arith
+some-byte (number w) bytes h = ⊎-elim (digits bytes) (λ d. omega (arith, ap length (d .1))) (h .1)
+  where
+    digits : (bytes : List ℕ) → IsDigits bytes → 0 < length bytes
+    digits [] d = absurd d
+    digits (b ∷ bytes) d = omega arith
+some-byte colon bytes h = omega (arith, ap length h)
+some-byte semicolon bytes h = omega (arith, ap length h)
+some-byte assign bytes h = omega (arith, ap length h)
 
 -- a word that stands at a place, as long as it can be
 pub record Stands (text : List ℕ) (q : ℕ) (lexeme : Lexeme) (e : ℕ) : Type 0 where

@@ -1,33 +1,18 @@
 -- Where the next word begins and ends, and which bytes of the text it has.
-use mathlib.Core.Path.{_≡_, refl, sym, ap, subst, _∙_}
-use mathlib.Core.List.{List, [], _∷_, _++_}
-use mathlib.Core.Logic.{⊎-elim}
-use Prim.Native.Nat.{ℕ, _+_, _-_, _<_, _≤_}
+use mathlib.Core.Path.{_≡_, sym, ap, subst, _∙_}
+use mathlib.Core.List.{List, _++_}
+use Prim.Native.Nat.{ℕ, _-_, _<_, _≤_}
 use native.Mathlib.Omega.{arith}
 use lib.ListN.{length, take, drop}
 use Rattle.std.specs.Holes.{between}
-use Rattle.std.specs.declared.option.Option.{Option}
-use Rattle.std.specs.declared.option.Option.the-variants.{Some, None}
-use Rattle.std.specs.declared.result.Result.{Result}
-use Rattle.std.specs.declared.result.Result.the-variants.{Ok, Err}
+use Rattle.std.specs.declared.option.Option.the-variants.{Some}
+use Rattle.std.specs.declared.result.Result.the-variants.{Ok}
 use Rattle.std.proofs.shelf.Fronts.{front-rest}
 use Rattle.std.proofs.shelf.Lists.{drop-drop, take-at, length-append, length-drop}
-use Rattle.words.specs.Words.{Lexeme, name, number, colon, semicolon, assign, nextAt}
-use Rattle.words.specs.Laws.{IsDigits, IsWord, Found, Inside, Lawful}
+use Rattle.words.specs.Words.{Lexeme, name, number, nextAt}
+use Rattle.words.specs.Laws.{Found, Inside, Lawful}
 use Rattle.words.proofs.Lawful.{lawful}
-
--- a word has a byte
-some-byte : (lexeme : Lexeme) (bytes : List ℕ) → IsWord lexeme bytes → 0 < length bytes
-some-byte (name w) [] h = absurd (h .1)
-some-byte (name w) (b ∷ bytes) h = omega arith
-some-byte (number w) bytes h = ⊎-elim (digits bytes) (λ d. omega (arith, ap length (d .1))) (h .1)
-  where
-    digits : (bytes : List ℕ) → IsDigits bytes → 0 < length bytes
-    digits [] d = absurd d
-    digits (b ∷ bytes) d = omega arith
-some-byte colon bytes h = omega (arith, ap length h)
-some-byte semicolon bytes h = omega (arith, ap length h)
-some-byte assign bytes h = omega (arith, ap length h)
+use Rattle.words.proofs.Longest.{some-byte}
 
 module _ (text : List ℕ) (p q : ℕ) (w : Lexeme) (e : ℕ) where
   pub found : nextAt text p ≡ Ok (Some (q, w, e)) → Found text p q w e × Inside w
