@@ -25,7 +25,7 @@ use Rattle.words.specs.declared.word.WordFault.{WordFault}
 use Rattle.words.specs.declared.word.WordFault.the-variants.{Stray, Unclosed, OutsideInt}
 use Rattle.words.specs.Bytes.{blank, beginsName, opens, closes}
 use Rattle.words.specs.Words.{Lexeme, name, number, colon, semicolon, assign, Where, outside, inside, blanks, classOf, wordAt, placed, pastBlanks, nextAt}
-use Rattle.words.specs.Laws.{NeverCloses, Blanks, nothing, byte, comment, IsDigits, IsWord, Reached, Found, BeginsNothing, Inside, Lawful}
+use Rattle.words.specs.Laws.{NeverCloses, Blanks, nothing, byte, comment, IsDigits, IsWord, Reached, Found, BeginsNothing, Inside, Lawful, Only}
 use Rattle.words.proofs.Gaps.{Stops, closes-is}
 use Rattle.words.proofs.Longest.{Stands, NoWord, Here, of-letter, of-digit, some-byte, word-here}
 
@@ -120,7 +120,7 @@ module _ (text : List ℕ) (q : ℕ) where
       let down = s .longest b (t .bytes) (drop e text) (t .is) (t .word) in
       let n : length (t .bytes) ≡ length (s .bytes) = omega arith in
       let same : s .bytes ≡ t .bytes =
-        sym (take-at (s .bytes) (drop d text) (length (s .bytes)) refl) ∙ ap (take (length (s .bytes))) (sym (s .is) ∙ t .is) ∙ take-at (t .bytes) (drop e text) (length (s .bytes)) n in
+      sym (take-at (s .bytes) (drop d text) (length (s .bytes)) refl) ∙ ap (take (length (s .bytes))) (sym (s .is) ∙ t .is) ∙ take-at (t .bytes) (drop e text) (length (s .bytes)) n in
       (is-lexed a (s .bytes) (s .word) ∙ ap lexedBy same ∙ sym (is-lexed b (t .bytes) (t .word)), omega (arith, s .ends, t .ends))
 
   no-stands : (a : Lexeme) (d : ℕ) → NoWord (drop q text) → Stands text q a d → ⊥
@@ -194,5 +194,6 @@ module _ (text : List ℕ) (old : ℕ) where
       sym (next-is q (stops q (number (h .0)) (h .1) f) l (Err (OutsideInt q)) (one-outside text q (h .0) (h .1) (word-there q (number (h .0)) (h .1) f) (h .3) (wordAt text q) (word-here text q l)))
 
 -- the same of an answer that is the next word
-pub only-answer : (text : List ℕ) (old : ℕ) (answer : Result (Option (ℕ × Lexeme × ℕ)) WordFault) → answer ≡ nextAt text old → (other : Result (Option (ℕ × Lexeme × ℕ)) WordFault) → Lawful text old other → other ≡ answer
+pub only-answer : (text : List ℕ) (old : ℕ) (answer : Result (Option (ℕ × Lexeme × ℕ)) WordFault) → answer ≡ nextAt text old → Only text old answer
+unfolding Only
 only-answer text old answer e other h = only text old other h ∙ sym e

@@ -99,6 +99,14 @@ Lawful text old (Err (Stray p)) = Reached text old p × BeginsNothing text p
 Lawful text old (Err (Unclosed p)) = Reached text old p × NeverEnds text p
 Lawful text old (Err (OutsideInt p)) = (w : List ℕ) × (new : ℕ) × Found text old p (number w) new × (isInt (written w) ≡ false)
 
+-- no other answer keeps these laws
+unfoldable pub Only : List ℕ → ℕ → Result (Option (ℕ × Lexeme × ℕ)) WordFault → Type 0
+Only text old answer = (other : Result (Option (ℕ × Lexeme × ℕ)) WordFault) → Lawful text old other → other ≡ answer
+
 -- the next word of every text keeps these laws
 abbrev pub KeepsLaws : Type 0
 KeepsLaws = (text : List ℕ) (old : ℕ) (answer : Result (Option (ℕ × Lexeme × ℕ)) WordFault) → answer ≡ nextAt text old → Lawful text old answer
+
+-- it alone keeps them
+abbrev pub KeepsThemAlone : Type 0
+KeepsThemAlone = (text : List ℕ) (old : ℕ) (answer : Result (Option (ℕ × Lexeme × ℕ)) WordFault) → answer ≡ nextAt text old → Only text old answer

@@ -4,7 +4,7 @@ ghost use Prim.Native.Nat.{_<_, _≤_};
 ghost use lib.ListN.{length};
 ghost use Rattle.std.specs.Results.{Cases};
 ghost use Rattle.std.specs.Options.{Cases as BySome};
-ghost use Rattle.words.specs.Laws.{Lawful, KeepsLaws};
+ghost use Rattle.words.specs.Laws.{Lawful, Only, KeepsLaws, KeepsThemAlone};
 ghost use Rattle.words.specs.Words.{nextAt, answered, standsAt};
 use super::Reader;
 use crate::scan::blanks_end;
@@ -12,9 +12,10 @@ use crate::scan::word_at;
 use crate::word::Word;
 use crate::word::WordFault;
 
-// The next word of every text keeps the laws.
+// The next word of every text keeps the laws, and it alone.
 fn keeps_laws()
-    ensures { λ _. ⌜ KeepsLaws ⌝ }
+    ensures laws { λ _. ⌜ KeepsLaws ⌝ }
+    ensures only { λ _. ⌜ KeepsThemAlone ⌝ }
 {}
 
 impl<'t> Reader<'t> {
@@ -33,6 +34,7 @@ impl<'t> Reader<'t> {
         ensures place { λ r. ⌜ now (self .exit) .place ≡ standsAt (nextAt (now (now (self .entry) .text)) (now (self .entry) .place)) (length (now (now (self .entry) .text))) (now (self .entry) .place) ⌝ }
         ensures on { λ r. ⌜ (now (self .entry) .place ≤ now (self .exit) .place) × Cases r (λ o. BySome o (Unit {0}) (λ _. now (self .entry) .place < now (self .exit) .place)) (λ _. Unit {0}) ⌝ }
         ensures laws { λ r. ⌜ Lawful (now (now (self .entry) .text)) (now (self .entry) .place) (answered r (now (self .exit) .place)) ⌝ }
+        ensures only { λ r. ⌜ Only (now (now (self .entry) .text)) (now (self .entry) .place) (answered r (now (self .exit) .place)) ⌝ }
     {
         keeps_laws();
         let start = blanks_end(self.text, self.place)?;
