@@ -85,6 +85,8 @@ mod tests {
         for (word, expected) in cases {
             check_eq(value(word.as_bytes()), expected)?;
         }
+        check_eq(fit(32_767), Some(32_767))?;
+        check_eq(fit(-32_769), None)?;
         check_eq(value(&[b'0'; 5000]), Some(0))?;
         check_eq(value(&[b'9'; 5000]), None)
     }

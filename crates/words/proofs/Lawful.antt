@@ -1,13 +1,12 @@
 -- The next word keeps the laws that a user would state.
-use mathlib.Core.Path.{_≡_, refl, sym, ap, subst, _∙_}
-use mathlib.Core.Bool.{true, false}
-use mathlib.Core.List.{List, [], _∷_, _++_, append-nil}
+use mathlib.Core.Path.{_≡_, sym, ap, subst, _∙_}
+use mathlib.Core.Bool.{false}
+use mathlib.Core.List.{List, _++_, append-nil}
 use Prim.Native.Nat.{ℕ, _+_, _<_, _≤_}
-use native.Mathlib.Nat.{add-zero}
 use lib.Dec.{ltb}
 use lib.ListN.{length, getD, drop}
 use Rattle.std.specs.declared.option.Option.{Option}
-use Rattle.std.specs.declared.option.Option.the-variants.{Some, None}
+use Rattle.std.specs.declared.option.Option.the-variants.{None}
 use Rattle.std.specs.declared.result.Result.{Result}
 use Rattle.std.specs.declared.result.Result.the-variants.{Ok, Err}
 use Rattle.std.proofs.shelf.Fronts.{front-rest}
@@ -17,7 +16,8 @@ use Rattle.words.specs.declared.word.WordFault.{WordFault}
 use Rattle.words.specs.declared.word.WordFault.the-variants.{Stray, Unclosed, OutsideInt}
 use Rattle.words.specs.Bytes.{blank, opens}
 use Rattle.words.specs.Words.{Lexeme, number, blanks, outside, wordAt, placed, pastBlanks, nextAt}
-use Rattle.words.specs.Laws.{Blanks, NeverCloses, Reached, Found, Lawful}
+use Rattle.words.specs.Laws.{Blanks, Reached, Found, Lawful}
+use Rattle.words.proofs.Blanks.{first-left}
 use Rattle.words.proofs.Gaps.{Gap, Stops, Past, past}
 use Rattle.words.proofs.Longest.{Stands, Here, word-here}
 
@@ -48,8 +48,8 @@ module _ (text : List ℕ) (p : ℕ) where
   -- the first two bytes of what is left
   at-front : (q : ℕ) → Stops (drop q text) → (blank (getD text q 0) ≡ false) × (opens (getD text q 0) (getD text (q + 1) 0) ≡ false)
   at-front q h =
-      let i : getD (drop q text) 0 0 ≡ getD text q 0 = getD-drop q text 0 0 ∙ ap (λ n. getD text n 0) (add-zero q) in
-      (ap blank (sym i) ∙ h .0, (λ j. opens (sym i j) (sym (getD-drop q text 1 0) j)) ∙ h .1)
+      let i = sym (first-left text q) in
+      (ap blank i ∙ h .0, (λ j. opens (i j) (sym (getD-drop q text 1 0) j)) ∙ h .1)
 
   at-word : (q : ℕ) → Gap Stops p (drop p text) q → q < length text → (r : Result (Lexeme × ℕ) WordFault) → Here text q r → Lawful text p (placed q r)
   unfolding Lawful

@@ -1,6 +1,6 @@
 -- The word at a place is as long as it can be.
 use mathlib.Core.Path.{_≡_, refl, sym, ap, subst, _∙_}
-use mathlib.Core.Bool.{Bool, true, false, cond}
+use mathlib.Core.Bool.{Bool, true, false}
 use mathlib.Core.List.{List, [], _∷_, _++_}
 use mathlib.Core.Logic.{_⊎_, inl, inr, ⊎-elim}
 use Prim.Native.Nat.{ℕ, suc, _+_, _-_, _<_, _≤_}
@@ -13,7 +13,7 @@ use Rattle.std.specs.shelf.Lists.{All, leading}
 use Rattle.std.specs.Text.{asciiDigit}
 use Rattle.std.specs.declared.result.Result.{Result}
 use Rattle.std.specs.declared.result.Result.the-variants.{Ok, Err}
-use Rattle.std.proofs.shelf.Lists.{drop-more, drop-drop, getD-drop, take-append-drop, length-take-le}
+use Rattle.std.proofs.shelf.Lists.{drop-more, drop-drop, take-append-drop, length-take-le}
 use Rattle.std.proofs.shelf.Sums.{leading-le-length}
 use Rattle.std.proofs.shelf.Tests.{both-ways, cond-true, cond-both, eqb-true, eqb-false}
 use Rattle.std.proofs.shelf.Ways.{tells}
@@ -27,8 +27,8 @@ use Rattle.words.specs.declared.word.WordFault.{WordFault}
 use Rattle.words.specs.declared.word.WordFault.the-variants.{Stray, Unclosed, OutsideInt}
 use Rattle.words.specs.Bytes.{beginsName, inName, goesOn}
 use Rattle.words.specs.Words.{Lexeme, name, number, colon, semicolon, assign, classOf, endAt, numberAt, wordAs, wordAt}
-use Rattle.words.specs.Laws.{IsName, IsDigits, IsNumber, IsWord, NoneLonger, Inside}
-use Rattle.words.proofs.Blanks.{two, stands}
+use Rattle.words.specs.Laws.{IsDigits, IsNumber, IsWord, NoneLonger, Inside}
+use Rattle.words.proofs.Blanks.{first-left, two, stands}
 
 module _ (p : ℕ → Bool) where
   all-leading : (xs : List ℕ) → All (λ c. p c ≡ true) (take (leading p xs) xs)
@@ -170,7 +170,7 @@ module _ (text : List ℕ) (q : ℕ) (h : q < length text) where
   split = drop-more text q 0 h
 
   next : getD rest 0 0 ≡ getD text (q + 1) 0
-  next = let i : q + 1 + 0 ≡ q + 1 = omega arith in getD-drop (q + 1) text 0 0 ∙ ap (λ n. getD text n 0) i
+  next = first-left text (q + 1)
 
   most : (c : Class) → classOf b ≡ c → (lexeme : Lexeme) (front back : List ℕ) → drop q text ≡ front ++ back → IsWord lexeme front → Most c rest (length front)
   most c e lexeme front back i w = subst (λ k. Most k rest (length front)) e (fronts b rest lexeme front back (sym split ∙ i) w)

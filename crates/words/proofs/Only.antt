@@ -1,10 +1,9 @@
 -- Only one answer keeps the laws.
 use mathlib.Core.Path.{_≡_, refl, sym, ap, subst, _∙_}
-use mathlib.Core.Bool.{Bool, true, false, cond}
+use mathlib.Core.Bool.{true, false, cond}
 use mathlib.Core.List.{List, [], _∷_, _++_, append-nil}
 use mathlib.Core.Logic.{⊎-elim}
-use Prim.Native.Nat.{ℕ, _+_, _-_, _<_, _≤_}
-use native.Mathlib.Nat.{add-zero}
+use Prim.Native.Nat.{ℕ, _+_, _<_}
 use native.Mathlib.Omega.{arith}
 use lib.Dec.{eqb, ltb}
 use lib.ListN.{length, getD, take, drop}
@@ -13,8 +12,7 @@ use Rattle.std.specs.declared.option.Option.{Option}
 use Rattle.std.specs.declared.option.Option.the-variants.{Some, None}
 use Rattle.std.specs.declared.result.Result.{Result}
 use Rattle.std.specs.declared.result.Result.the-variants.{Ok, Err}
-use Rattle.std.proofs.shelf.Fronts.{front-rest}
-use Rattle.std.proofs.shelf.Lists.{append-assoc, drop-drop, length-append, length-drop, take-at, getD-drop}
+use Rattle.std.proofs.shelf.Lists.{append-assoc, length-append, length-drop, take-at, getD-drop}
 use Rattle.std.proofs.shelf.Tests.{both-ways, cases-bool, cond-true, cond-false, and-right, lt-ltb, le-ltb}
 use Rattle.std.proofs.shelf.Ways.{tells}
 use Rattle.numbers.specs.Int.{isInt}
@@ -24,10 +22,12 @@ use Rattle.words.specs.declared.word.Class.the-variants as k
 use Rattle.words.specs.declared.word.WordFault.{WordFault}
 use Rattle.words.specs.declared.word.WordFault.the-variants.{Stray, Unclosed, OutsideInt}
 use Rattle.words.specs.Bytes.{blank, beginsName, opens, closes}
-use Rattle.words.specs.Words.{Lexeme, name, number, colon, semicolon, assign, Where, outside, inside, blanks, classOf, wordAt, placed, pastBlanks, nextAt}
-use Rattle.words.specs.Laws.{NeverCloses, Blanks, nothing, byte, comment, IsDigits, IsWord, Reached, Found, BeginsNothing, Inside, Lawful, Only}
+use Rattle.words.specs.Words.{Lexeme, name, number, colon, semicolon, assign, outside, inside, blanks, classOf, wordAt, placed, pastBlanks, nextAt}
+use Rattle.words.specs.Laws.{NeverCloses, Blanks, nothing, byte, comment, IsDigits, IsWord, Reached, Found, Inside, Lawful, Only}
+use Rattle.words.proofs.Blanks.{first-left}
 use Rattle.words.proofs.Gaps.{Stops, closes-is}
-use Rattle.words.proofs.Longest.{Stands, NoWord, Here, of-letter, of-digit, some-byte, word-here}
+use Rattle.words.proofs.Longest.{Stands, NoWord, Here, of-letter, of-digit, word-here}
+use Rattle.words.proofs.Places.{at-place, order}
 
 -- the blanks are passed over, one step at a time
 past-blank : (p b : ℕ) (left : List ℕ) → blank b ≡ true → blanks outside p (b ∷ left) ≡ blanks outside (p + 1) left
@@ -152,20 +152,17 @@ module _ (text : List ℕ) (old : ℕ) where
   leads q h = ap (blanks outside old) (h .joined) ∙ past-blanks (h .blanks) old (drop q text) ∙ ap (λ n. blanks outside n (drop q text)) (sym (h .begins))
 
   module _ (q : ℕ) (w : Lexeme) (e : ℕ) (f : Found text old q w e) where
-    at-place : drop q text ≡ f .bytes ++ drop e text
-    at-place = sym (sym (front-rest (drop old text) (f .gap) (f .bytes ++ drop e text) (f .joined)) ∙ drop-drop (length (f .gap)) old text ∙ ap (λ n. drop n text) (sym (f .begins)))
-
     word-there : Stands text q w e
-    word-there = record { bytes = f .bytes; word = f .word; is = at-place; ends = f .ends; longest = f .longest }
+    word-there = record { bytes = f .bytes; word = f .word; is = at-place text old q w e f; ends = f .ends; longest = f .longest }
 
     reached : Reached text old q
-    reached = record { gap = f .gap; blanks = f .blanks; joined = f .joined ∙ ap (λ l. f .gap ++ l) (sym at-place); begins = f .begins }
+    reached = record { gap = f .gap; blanks = f .blanks; joined = f .joined ∙ ap (λ l. f .gap ++ l) (sym (at-place text old q w e f)); begins = f .begins }
 
     stops : blanks outside old (drop old text) ≡ Ok q
-    stops = leads q reached ∙ stops-here q (drop q text) (subst Stops (sym at-place) (word-stops w (f .bytes) (drop e text) (f .word)))
+    stops = leads q reached ∙ stops-here q (drop q text) (subst Stops (sym (at-place text old q w e f)) (word-stops w (f .bytes) (drop e text) (f .word)))
 
     there : q < length text
-    there = omega (arith, ap length at-place, length-append (f .bytes) (drop e text), length-drop q text, some-byte w (f .bytes) (f .word))
+    there = let o = order text old q w e f in omega arith
 
   -- what comes where the blanks end inside the text
   next-is : (q : ℕ) → blanks outside old (drop old text) ≡ Ok q → q < length text → (r : Result (Lexeme × ℕ) WordFault) → wordAt text q ≡ r → nextAt text old ≡ placed q r
@@ -182,8 +179,7 @@ module _ (text : List ℕ) (old : ℕ) where
       sym (next-is (x .0) (stops (x .0) (x .1) (x .2) f) l (Ok (x .1, x .2)) (one-word text (x .0) (x .1) (x .2) (word-there (x .0) (x .1) (x .2) f) (h .1) (wordAt text (x .0)) (word-here text (x .0) l)))
   only (Err (Stray q)) h =
       let n = h .1 in
-      let first : getD (drop q text) 0 0 ≡ getD text q 0 = getD-drop q text 0 0 ∙ ap (λ n. getD text n 0) (add-zero q) in
-      let s : Stops (drop q text) = (ap blank first ∙ n .no-blank, (λ i. opens (first i) (getD-drop q text 1 0 i)) ∙ n .no-comment) in
+      let s : Stops (drop q text) = (ap blank (first-left text q) ∙ n .no-blank, (λ i. opens (first-left text q i) (getD-drop q text 1 0 i)) ∙ n .no-comment) in
       sym (next-is q (leads q (h .0) ∙ stops-here q (drop q text) s) (n .there) (Err (Stray q)) (one-stray text q (n .no-word) (wordAt text q) (word-here text q (n .there))))
   only (Err (Unclosed q)) h =
       let c = h .1 in

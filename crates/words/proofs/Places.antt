@@ -15,23 +15,26 @@ use Rattle.words.proofs.Lawful.{lawful}
 use Rattle.words.proofs.Longest.{some-byte}
 
 module _ (text : List ℕ) (p q : ℕ) (w : Lexeme) (e : ℕ) where
+  -- what a found word's place tells
+  module _ (f : Found text p q w e) where
+    pub at-place : drop q text ≡ f .bytes ++ drop e text
+    at-place = sym (sym (front-rest (drop p text) (f .gap) (f .bytes ++ drop e text) (f .joined)) ∙ drop-drop (length (f .gap)) p text ∙ ap (λ n. drop n text) (sym (f .begins)))
+
+    pub order : (p ≤ q) × (q < e) × (e ≤ length text)
+    order =
+        let some = some-byte w (f .bytes) (f .word) in
+        (omega arith, omega arith, omega (arith, ap length at-place, length-append (f .bytes) (drop e text), length-drop q text, length-drop e text))
+
+    bytes-between : f .bytes ≡ between q e text
+    bytes-between = sym (ap (take (e - q)) at-place ∙ take-at (f .bytes) (drop e text) (e - q) (omega arith))
+
   pub found : nextAt text p ≡ Ok (Some (q, w, e)) → Found text p q w e × Inside w
   unfolding Lawful
   found i = subst (Lawful text p) i (lawful text p)
 
-  -- the next word stands behind the old place, has a byte, and ends inside the text
+  -- the next word stands at the old place or behind it, has a byte, and ends inside the text
   pub in-order : nextAt text p ≡ Ok (Some (q, w, e)) → (p ≤ q) × (q < e) × (e ≤ length text)
-  in-order i =
-      let f = found i .0 in
-      let some = some-byte w (f .bytes) (f .word) in
-      let long = ap length (f .joined) ∙ length-append (f .gap) (f .bytes ++ drop e text) in
-      (omega arith, omega arith, omega (arith, long, length-append (f .bytes) (drop e text), length-drop p text, length-drop e text))
-
-  -- the word's bytes are those of the text from its place up to its end
-  bytes-between : (f : Found text p q w e) → f .bytes ≡ between q e text
-  bytes-between f =
-      let r = sym (front-rest (drop p text) (f .gap) (f .bytes ++ drop e text) (f .joined)) ∙ drop-drop (length (f .gap)) p text ∙ ap (λ n. drop n text) (sym (f .begins)) in
-      sym (ap (take (e - q)) (sym r) ∙ take-at (f .bytes) (drop e text) (e - q) (omega arith))
+  in-order i = order (found i .0)
 
 -- a name's bytes, and how many they are
 pub name-bytes : (text : List ℕ) (p q : ℕ) (w : List ℕ) (e : ℕ) → nextAt text p ≡ Ok (Some (q, name w, e)) → (w ≡ between q e text) × (length w ≡ e - q)

@@ -26,7 +26,10 @@ fn reads(text: &[u8], words: &[(usize, &str)], last: Option<(u8, usize)>) -> Res
         }
     }
     match reader.next_word() {
-        Ok(None) => check_eq(None, last),
+        Ok(None) => {
+            check_eq(reader.end(), text.len())?;
+            check_eq(None, last)
+        }
         Ok(Some(_)) => Err(Fail::new("a word too many")),
         Err(fault) => check_eq(Some((fault.number(), fault.place())), last),
     }
