@@ -1,19 +1,14 @@
--- A number word's value, capped.
-use mathlib.Core.Path.{_≡_, refl, sym, ap, _∙_}
+-- The value of a number word below zero.
+use mathlib.Core.Path.{_≡_}
 use mathlib.Core.List.{List, [], _∷_}
-use Prim.Native.Nat.{ℕ, _-_, _<_, min}
+use Prim.Native.Nat.{ℕ, _-_, min}
 use native.Mathlib.Omega.{arith}
-use lib.Dec.{eqb}
-use lib.IntN.{ℤ, pos, negℤ, _-ℤ_}
+use lib.IntN.{pos, negℤ}
 use lib.ListN.{length, getD, take, drop}
-use borrow.Author.Needs.{needs}
 use Rattle.std.proofs.shelf.Signed.{ints}
 use Rattle.std.proofs.shelf.Lists.{take-all}
 use Rattle.numbers.specs.Int.{inInt}
 use Rattle.numbers.specs.Number.{decimal, written}
-
-pub capped : (d : ℕ) → inInt (pos (min d 32769)) ≡ inInt (pos d)
-capped d = grind (arith, ints)
 
 pub capped-under : (d : ℕ) → inInt (negℤ (pos (min d 32769))) ≡ inInt (negℤ (pos d))
 capped-under d = grind (arith, ints)
@@ -21,7 +16,3 @@ capped-under d = grind (arith, ints)
 pub written-minus : (w : List ℕ) → getD w 0 0 ≡ 45 → written w ≡ negℤ (pos (decimal (take (length w - 1) (drop 1 w))))
 written-minus [] e = absurd (omega arith)
 written-minus (b ∷ rest) e = grind (arith, take-all)
-
-pub written-plain : (w : List ℕ) → (getD w 0 0 ≡ 45 → ⊥) → written w ≡ pos (decimal w)
-written-plain [] e = refl
-written-plain (b ∷ rest) e = grind arith

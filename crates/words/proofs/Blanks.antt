@@ -1,25 +1,31 @@
 -- The blanks at the front of what is left of a text, one step at a time.
-use mathlib.Core.Path.{_≡_, refl, sym, ap, subst, _∙_}
-use mathlib.Core.Bool.{Bool, true, false, cond}
+use mathlib.Core.Path.{_≡_, refl, sym, ap, _∙_}
+use mathlib.Core.Bool.{true, false, cond}
 use mathlib.Core.List.{List, [], _∷_}
-use Prim.Native.Nat.{ℕ, _+_, _-_, _<_, _≤_}
+use Prim.Native.Nat.{ℕ, _+_, _<_, _≤_}
 use mathlib.Core.Logic.{⊎-elim}
 use Rattle.std.proofs.str.Laws.{order}
 use native.Mathlib.Omega.{arith}
-use native.Mathlib.Nat.{add-assoc}
-use lib.ListN.{length, getD, take, drop}
-use Rattle.std.proofs.shelf.Lists.{drop-more, drop-all, length-drop}
-use Rattle.std.specs.declared.result.Result.{Result}
+use native.Mathlib.Nat.{add-zero}
+use lib.ListN.{length, getD, drop}
+use Rattle.std.proofs.shelf.Lists.{drop-more, drop-all, length-drop, getD-past, getD-drop}
 use Rattle.std.specs.declared.result.Result.the-variants.{Ok, Err}
-use Rattle.words.specs.declared.word.WordFault.{WordFault}
 use Rattle.words.specs.declared.word.WordFault.the-variants.{Unclosed}
 use Rattle.words.specs.Bytes.{blank, opens, closes}
-use Rattle.words.specs.Words.{blanks, Where, outside, inside}
+use Rattle.words.specs.Words.{blanks, outside, inside}
 
-two : (xs : List ℕ) (i : ℕ) → i + 1 < length xs → drop i xs ≡ getD xs i 0 ∷ getD xs (i + 1) 0 ∷ drop (i + 2) xs
+-- the byte at a place is the first of what is left there
+pub first-left : (xs : List ℕ) (i : ℕ) → getD (drop i xs) 0 0 ≡ getD xs i 0
+first-left xs i = getD-drop i xs 0 0 ∙ ap (λ n. getD xs n 0) (add-zero i)
+
+pub two : (xs : List ℕ) (i : ℕ) → i + 1 < length xs → drop i xs ≡ getD xs i 0 ∷ getD xs (i + 1) 0 ∷ drop (i + 2) xs
 two xs i h =
     let e : i + 1 + 1 ≡ i + 2 = omega arith in
     drop-more xs i 0 (omega arith) ∙ ap (λ l. getD xs i 0 ∷ l) (drop-more xs (i + 1) 0 h ∙ ap (λ k. getD xs (i + 1) 0 ∷ drop k xs) e)
+
+-- a byte that is not 0 stands inside the text
+pub stands : (xs : List ℕ) (i : ℕ) → 0 < getD xs i 0 → i < length xs
+stands xs i h = ⊎-elim (λ l. l) (λ l. absurd (omega (arith, getD-past xs i 0 l))) (order i (length xs))
 
 one : (xs : List ℕ) (i : ℕ) → i + 1 ≡ length xs → drop i xs ≡ getD xs i 0 ∷ []
 one xs i h = drop-more xs i 0 (omega arith) ∙ ap (λ l. getD xs i 0 ∷ l) (drop-all (i + 1) xs (omega arith))

@@ -1,1 +1,6 @@
 pub mod Blanks
+pub mod Gaps
+pub mod Longest
+pub mod Lawful
+pub mod Places
+pub mod Only

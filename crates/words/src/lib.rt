@@ -2,6 +2,8 @@
 mod bytes;
 mod reader;
 mod scan;
+#[cfg(test)]
+mod tests;
 mod word;
 
 pub use reader::Reader;

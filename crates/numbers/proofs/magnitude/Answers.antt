@@ -1,9 +1,7 @@
-use mathlib.Core.Path.{_≡_, refl, sym, ap, subst, _∙_}
 use native.Mathlib.Omega.{arith}
-use borrow.Author.Needs.{needs}
 use Rattle.std.proofs.shelf.Sums.{folded-more}
 use Rattle.std.proofs.shelf.Lists.{take-all}
-use Rattle.std.proofs.shelf.Signed.{ints, toZ-pos}
+use Rattle.std.proofs.shelf.Signed.{ints}
 use Rattle.numbers.proofs.magnitude.Needs as need
 
 pub loop-b-again : need.loop-b-again
