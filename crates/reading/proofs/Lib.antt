@@ -4,3 +4,5 @@ pub mod Turns
 pub mod Aims
 pub mod Sound
 pub mod Whole
+pub mod Room
+pub mod Words

@@ -4,3 +4,4 @@ pub mod Drafts
 pub mod Statements
 pub mod Reading
 pub mod Formed
+pub mod FirstFault
