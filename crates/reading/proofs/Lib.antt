@@ -6,3 +6,4 @@ pub mod Sound
 pub mod Whole
 pub mod Room
 pub mod Words
+pub mod Firsts

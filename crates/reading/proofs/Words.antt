@@ -161,36 +161,36 @@ module _ (text : List ℕ) (nv ns : ℕ) where
     comes-step : (q : ℕ) (w : Lexeme) (after : ℕ) (step : Step) → nextAt text p ≡ Ok (Some (q, w, after)) → followed (d .progress .stage) (tokenOf w) ≡ Some step → Comes (onward (applied text d (asName q w) step) (next after))
     comes-step q w after step stands fits = by (applied text d (asName q w) step) refl (roomy-applied text d (asName q w) step fit)
       where
-      fit : StepRoomy d step
-      fit = subst (FitRoomy d) fits (roomy-followed d (d .progress .stage) room (tokenOf w))
+        fit : StepRoomy d step
+        fit = subst (FitRoomy d) fits (roomy-followed d (d .progress .stage) room (tokenOf w))
 
-      by : (r : Result Draft ProgramFault) → applied text d (asName q w) step ≡ r → Cases r (λ e. Roomy e (e .progress .stage)) (λ _. Unit {0}) → Comes (onward r (next after))
-      by (Ok e) a r = let o = in-order text p q w after stands in more after e (word q w after step e b stands fits a) r (omega arith)
-      by (Err f) a r = stops-here f (refused-stops text p d q step (record { lexeme = w; after = after; stands = stands; fits = fits }) f fit a)
+        by : (r : Result Draft ProgramFault) → applied text d (asName q w) step ≡ r → Cases r (λ e. Roomy e (e .progress .stage)) (λ _. Unit {0}) → Comes (onward r (next after))
+        by (Ok e) a r = let o = in-order text p q w after stands in more after e (word q w after step e b stands fits a) r (omega arith)
+        by (Err f) a r = stops-here f (refused-stops text p d q step (record { lexeme = w; after = after; stands = stands; fits = fits }) f fit a)
 
     comes-word : (q : ℕ) (w : Lexeme) (after : ℕ) → nextAt text p ≡ Ok (Some (q, w, after)) → Comes (goOn text d (fitting q w after (followed (d .progress .stage) (tokenOf w))) next)
     comes-word q w after stands = by (followed (d .progress .stage) (tokenOf w)) refl
       where
-      by : (o : Option Step) → followed (d .progress .stage) (tokenOf w) ≡ o → Comes (goOn text d (fitting q w after o) next)
-      by None none = stops-here (program.Statement (statement.Misfit q)) (misfit refl w after stands none)
-      by (Some step) fits = comes-step q w after step stands fits
+        by : (o : Option Step) → followed (d .progress .stage) (tokenOf w) ≡ o → Comes (goOn text d (fitting q w after o) next)
+        by None none = stops-here (program.Statement (statement.Misfit q)) (misfit refl w after stands none)
+        by (Some step) fits = comes-step q w after step stands fits
 
     comes-end : nextAt text p ≡ Ok None → Comes (goOn text d (cond (mayEnd (d .progress .stage)) (Ok None) (Err (statement.Misfit (length text)))) next)
     comes-end none = by (mayEnd (d .progress .stage)) refl
       where
-      by : (t : Bool) → mayEnd (d .progress .stage) ≡ t → Comes (goOn text d (cond t (Ok None) (Err (statement.Misfit (length text)))) next)
-      by true e = record { last = p; begins = b; no-more = none; ends = e }
-      by false e = stops-here (program.Statement (statement.Misfit (length text))) (early-end refl refl none e)
+        by : (t : Bool) → mayEnd (d .progress .stage) ≡ t → Comes (goOn text d (cond t (Ok None) (Err (statement.Misfit (length text)))) next)
+        by true e = record { last = p; begins = b; no-more = none; ends = e }
+        by false e = stops-here (program.Statement (statement.Misfit (length text))) (early-end refl refl none e)
 
     comes-next : Comes (goOn text d (stepAt text p (d .progress .stage)) next)
     comes-next = by (nextAt text p) refl
       where
-      by : (r : Result (Option (ℕ × Lexeme × ℕ)) WordFault) → nextAt text p ≡ r → Comes (goOn text d (stepFrom (d .progress .stage) (length text) r) next)
-      by (Ok None) i = comes-end i
-      by (Ok (Some x)) i = comes-word (x .0) (x .1) (x .2) i
-      by (Err (Stray q)) i = stops-here (program.Statement (statement.Word (Stray q))) (stray-byte refl i)
-      by (Err (Unclosed q)) i = stops-here (program.Statement (statement.Word (Unclosed q))) (open-comment refl i)
-      by (Err (OutsideInt q)) i = stops-here (program.Statement (statement.Word (OutsideInt q))) (outside-int refl i)
+        by : (r : Result (Option (ℕ × Lexeme × ℕ)) WordFault) → nextAt text p ≡ r → Comes (goOn text d (stepFrom (d .progress .stage) (length text) r) next)
+        by (Ok None) i = comes-end i
+        by (Ok (Some x)) i = comes-word (x .0) (x .1) (x .2) i
+        by (Err (Stray q)) i = stops-here (program.Statement (statement.Word (Stray q))) (stray-byte refl i)
+        by (Err (Unclosed q)) i = stops-here (program.Statement (statement.Word (Unclosed q))) (open-comment refl i)
+        by (Err (OutsideInt q)) i = stops-here (program.Statement (statement.Word (OutsideInt q))) (outside-int refl i)
 
   pub comes-from : (k p : ℕ) (d : Draft) → Begins text nv ns p d → Roomy d (d .progress .stage) → length text - p < k → Comes (takenFrom k text p d)
   comes-from zero p d b r h = absurd (omega arith)

@@ -4,6 +4,7 @@ ghost use lib.ListN.{length, replicate};
 ghost use Rattle.std.specs.Results.{Cases};
 ghost use Rattle.syntax.specs.Records.{noVariable, noStatement};
 ghost use Rattle.reading.specs.Drafts.{draftOf, drafted, Fits};
+ghost use Rattle.reading.specs.FirstFault.{FirstFault};
 ghost use Rattle.reading.specs.Formed.{Filled};
 ghost use Rattle.reading.specs.Reading.{start, taken, finished, onward, filledIs, extentOf, reading, ReadAs};
 use crate::apply::apply;
@@ -93,6 +94,7 @@ pub fn fill(
     statements: &mut [Statement],
 ) -> Result<Extent, ProgramFault>
     ensures is { λ r. ⌜ ReadAs (reading (now (text .entry)) (length (now (variables .entry))) (length (now (statements .entry)))) r (now (variables .exit)) (now (statements .exit)) ⌝ }
+    ensures first_fault { λ r. ⌜ FirstFault (now (text .entry)) (length (now (variables .entry))) (length (now (statements .entry))) r ⌝ }
     ensures filled { λ r. ⌜ Cases r (λ e. Filled e (now (variables .exit)) (now (statements .exit))) (λ _. Unit {0}) ⌝ }
 {
     fill_any(text, variables, statements)

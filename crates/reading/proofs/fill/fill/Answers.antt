@@ -9,7 +9,9 @@ use Rattle.syntax.specs.declared.record.Statement.{Statement}
 use Rattle.reading.specs.declared.fault.ProgramFault.{ProgramFault}
 use Rattle.reading.specs.declared.draft.Extent.{Extent}
 use Rattle.reading.specs.Reading.{Reading, ReadAs, reading}
+use Rattle.reading.specs.FirstFault.{FirstFault}
 use Rattle.reading.specs.Formed.{Filled}
+use Rattle.reading.proofs.Firsts.{reading-first}
 use Rattle.reading.proofs.Whole.{reading-filled}
 use Rattle.reading.proofs.fill.fill.Needs as need
 
@@ -20,5 +22,6 @@ as-read w r vs ss a f =
 pub returns : need.returns
 returns c = record {
   is = c .fill-any .ensures .is;
+  first-fault = subst (FirstFault (c .args .text .now) (length (c .args .variables .now)) (length (c .args .statements .now))) (sym (c .fill-any .ensures .is .answer)) (reading-first (c .args .text .now) (length (c .args .variables .now)) (length (c .args .statements .now)));
   filled = as-read _ (c .fill-any .result) (c .fill-any .last .variables) (c .fill-any .last .statements) (c .fill-any .ensures .is) (reading-filled (c .args .text .now) (length (c .args .variables .now)) (length (c .args .statements .now)));
 }
