@@ -24,6 +24,7 @@ use Rattle.reading.specs.declared.fault.RangeFault.{RangeFault}
 use Rattle.reading.specs.declared.fault.RangeFault.the-variants.{NoIntInput, LowAboveHigh}
 use Rattle.reading.specs.declared.draft.Extent.{Extent}
 use Rattle.reading.specs.Reading.{Reading}
+use Rattle.reading.specs.FirstFault.{HasFault, First}
 use Rattle.program.specs.declared.lent.Program.{Program}
 
 -- the records that a program has in use
@@ -63,6 +64,11 @@ readMemory r = memoryBy (r .answer) (r .variables) (r .statements)
 abbrev pub outcomeOf : Option ProgramFault → Result (Unit {0}) ProgramFault
 outcomeOf None = Ok tt
 outcomeOf (Some f) = Err f
+
+-- a text that was read has no fault, and a refused one is told the first that it has
+abbrev pub TellsFirst : List ℕ → ℕ → ℕ → Option ProgramFault → Type 0
+TellsFirst text nv ns None = (pass point n q : ℕ) → HasFault text nv ns pass point n q → ⊥
+TellsFirst text nv ns (Some f) = First text nv ns f
 
 abbrev pub isInput : Class → Bool
 isInput Local = false

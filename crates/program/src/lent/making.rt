@@ -3,7 +3,7 @@ ghost use mathlib.Core.Path.{_≡_};
 ghost use lib.ListN.{length};
 ghost use denote.Ref.{name};
 ghost use Rattle.reading.specs.Reading.{reading};
-ghost use Rattle.program.specs.Model.{memory, readMemory, outcomeOf};
+ghost use Rattle.program.specs.Model.{memory, readMemory, outcomeOf, TellsFirst};
 use super::Program;
 use reading::fault::ProgramFault;
 use reading::fill::fill;
@@ -18,6 +18,7 @@ impl<'r> Program<'r> {
         statements: &'r mut [Statement],
     ) -> Program<'r>
         ensures is { λ r. ⌜ memory r ≡ readMemory (reading (now (text .entry)) (length (now (variables .entry))) (length (now (statements .entry)))) ⌝ }
+        ensures first_fault { λ r. ⌜ TellsFirst (now (text .entry)) (length (now (variables .entry))) (length (now (statements .entry))) (memory r .fault) ⌝ }
         ensures variables { λ r. ⌜ name (r .variables) ≡ name (variables .entry) ⌝ }
         ensures statements { λ r. ⌜ name (r .statements) ≡ name (statements .entry) ⌝ }
     {
