@@ -19,6 +19,10 @@ use Rattle.interval.specs.declared.ends.Ends.{Ends}
 pub le-test : (a b : ℤ) → a ≤ℤ b → leZ a b ≡ true
 le-test a b h = grind (arith, ints, tells)
 
+-- where both sides are in order, the results are those of the ends
+pub results-ordered : (op : ℤ → ℤ → ℤ) (x y : Ends) → x .low ≤ℤ x .high → y .low ≤ℤ y .high → results op x y ≡ least-to-greatest (op (x .low) (y .low)) (op (x .low) (y .high)) (op (x .high) (y .low)) (op (x .high) (y .high))
+results-ordered op x y h k = cond-true _ _ _ (and-from _ _ (le-test _ _ h) (le-test _ _ k))
+
 -- an INT as the code reads it for a wider sum, and a wider number as the code passes it
 abbrev pub wide : ℤ → ℤ
 wide x = toZ w32 (ofZ w32 (toZ w16 (ofZ w16 x)))
@@ -70,10 +74,10 @@ quotients-fit x y f g =
 pub nonzero : (x : ℤ) → SFits w16 x → (x ≡ pos 0 → ⊥) → 0 < ofZ w32 (toZ w16 (ofZ w16 x))
 nonzero x f h = subst (λ z. 0 < ofZ w32 z) (sym (toZ-ofZ w16 x f)) (bits x f h)
   where
-  bits : (x : ℤ) → SFits w16 x → (x ≡ pos 0 → ⊥) → 0 < ofZ w32 x
-  bits (pos zero) f h = absurd (h refl)
-  bits (pos (suc n)) f h = omega arith
-  bits (negsuc n) f h = omega (arith, f .sfits)
+    bits : (x : ℤ) → SFits w16 x → (x ≡ pos 0 → ⊥) → 0 < ofZ w32 x
+    bits (pos zero) f h = absurd (h refl)
+    bits (pos (suc n)) f h = omega arith
+    bits (negsuc n) f h = omega (arith, f .sfits)
 
 passed-is : (op : ℤ → ℤ → ℤ) → Fit op → (x y : ℤ) → SFits w16 x → SFits w16 y → passed (op (wide x) (wide y)) ≡ op x y
 passed-is op fit x y f g = toZ-ofZ w32 _ (fit x y f g) ∙ ap (λ z. op z (wide y)) (wide-is x f) ∙ ap (op x) (wide-is y g)
@@ -81,10 +85,9 @@ passed-is op fit x y f g = toZ-ofZ w32 _ (fit x y f g) ∙ ap (λ z. op z (wide 
 -- the results of ends in order, as the code passes them on, spread over the results
 pub spread-is : (op : ℤ → ℤ → ℤ) → Fit op → (a b c d : ℤ) {e : Ends} → SFits w16 a → SFits w16 b → SFits w16 c → SFits w16 d → a ≤ℤ b → c ≤ℤ d → e ≡ least-to-greatest (passed (op (wide a) (wide c))) (passed (op (wide a) (wide d))) (passed (op (wide b) (wide c))) (passed (op (wide b) (wide d))) → e ≡ results op (from-to a b) (from-to c d)
 spread-is op fit a b c d i j k l h m is =
-    let both : (leZ a b && leZ c d) ≡ true = and-from _ _ (le-test a b h) (le-test c d m) in
     let ac = passed-is op fit a c i k in
     let ad = passed-is op fit a d i l in
     let bc = passed-is op fit b c j k in
     let bd = passed-is op fit b d j l in
     let same : least-to-greatest (passed (op (wide a) (wide c))) (passed (op (wide a) (wide d))) (passed (op (wide b) (wide c))) (passed (op (wide b) (wide d))) ≡ least-to-greatest (op a c) (op a d) (op b c) (op b d) = simp (ac, ad, bc, bd) in
-    is ∙ same ∙ sym (cond-true _ _ _ both)
+    is ∙ same ∙ sym (results-ordered op (from-to a b) (from-to c d) h m)

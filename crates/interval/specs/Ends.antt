@@ -59,9 +59,9 @@ cut lo hi x = cond (leZ (maxZ (x .low) lo) (minZ (x .high) hi)) (from-to (maxZ (
 abbrev pub leaves : ℤ → ℤ → Ends → Bool
 leaves lo hi x = ordered x && (ltZ (x .low) lo || ltZ hi (x .high))
 
--- an end that grew beyond that of a set before, moved to lo or hi; nothing grew from none, nor into none
+-- new, with an end that grew beyond that of old moved out to lo or hi; new itself if either has no number
 abbrev pub widened : ℤ → ℤ → Ends → Ends → Ends
 widened lo hi old new =
     cond (ordered old && ordered new)
-    (from-to (cond (ltZ (new .low) (old .low)) lo (new .low)) (cond (ltZ (old .high) (new .high)) hi (new .high)))
+    (from-to (cond (ltZ (new .low) (old .low)) (minZ lo (new .low)) (new .low)) (cond (ltZ (old .high) (new .high)) (maxZ hi (new .high)) (new .high)))
     new

@@ -3,8 +3,10 @@ ghost use mathlib.Core.Path.{_≡_};
 ghost use lib.IntN.{_+ℤ_, _-ℤ_, _*ℤ_};
 ghost use Rattle.interval.specs.Ends.{results, quotients};
 ghost use Rattle.interval.specs.Interval.{interval-ops, ends};
+
 mod ends;
 mod range;
+
 use domain::Domain;
 use domain::Truth;
 use ends::Ends;
@@ -154,8 +156,16 @@ pub impl Domain for Interval as IntervalDomain {
             return joined;
         }
         Interval {
-            low: if joined.low < self.low { Int::MIN } else { joined.low },
-            high: if self.high < joined.high { Int::MAX } else { joined.high },
+            low: if joined.low < self.low {
+                Int::MIN
+            } else {
+                joined.low
+            },
+            high: if self.high < joined.high {
+                Int::MAX
+            } else {
+                joined.high
+            },
         }
     }
 }

@@ -42,5 +42,5 @@ returns g c =
     record {
       is = is;
       holds-each = subst (λ s. Holds-each o s ns) (sym is) (spans-hold-each o l ns i);
-      least = subst (λ s. Least-over o s ns) (sym is) (spans-are-least o l ns)
+      least = subst (λ s. Least-over o s ns) (sym is) (spans-are-least o l ns);
     }

@@ -19,7 +19,10 @@ impl Range {
         ensures { λ r. ⌜ Checked (ends x) r ⌝ }
     {
         if x.low <= x.high {
-            Some(Range { low: x.low, high: x.high })
+            Some(Range {
+                low: x.low,
+                high: x.high,
+            })
         } else {
             None
         }
