@@ -1,0 +1,4 @@
+pub mod Corners
+pub mod Edges
+pub mod Meaning
+pub mod Order
