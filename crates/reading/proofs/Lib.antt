@@ -7,3 +7,5 @@ pub mod Whole
 pub mod Room
 pub mod Words
 pub mod Firsts
+pub mod Sorts
+pub mod Proper

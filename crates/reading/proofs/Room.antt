@@ -30,6 +30,7 @@ use Rattle.syntax.specs.declared.grammar.Step.the-variants.{Enter, Declare, Kee
 use Rattle.syntax.specs.Grammar.{begun, followed}
 use Rattle.reading.specs.declared.fault.StatementFault.{StatementFault}
 use Rattle.reading.specs.declared.fault.ProgramFault.{ProgramFault}
+use Rattle.reading.proofs.Sorts.{by-token}
 use Rattle.reading.specs.Drafts.{Draft, entered, roomForVariables, roomForStatements, ifVariableFits, ifStatementFits, isKnown, begunWith, completed, completedBy, variableAt, declaredIn, applied}
 
 abbrev pub VariableFits : Draft → Type 0
@@ -68,18 +69,6 @@ StepRoomy d (Aim j p) = StatementFits d
 abbrev pub FitRoomy : Draft → Option Step → Type 0
 FitRoomy d None = Unit {0}
 FitRoomy d (Some step) = StepRoomy d step
-
--- one proof for each sort of word
-by-token : (P : Token → Type 0) → P t.Name → ((k : Constant) → P (t.Constant k)) → P (t.Sign g.Colon) → P (t.Sign g.Semicolon) → P (t.Sign g.Assign) → ((b : Class) → P (t.Block b)) → P t.EndBlock → ((k : KindOf) → P (t.Kind k)) → ((c : Command) → P (t.Command c)) → (token : Token) → P token
-by-token P name constant colon semicolon assign block end kind command t.Name = name
-by-token P name constant colon semicolon assign block end kind command (t.Constant k) = constant k
-by-token P name constant colon semicolon assign block end kind command (t.Sign g.Colon) = colon
-by-token P name constant colon semicolon assign block end kind command (t.Sign g.Semicolon) = semicolon
-by-token P name constant colon semicolon assign block end kind command (t.Sign g.Assign) = assign
-by-token P name constant colon semicolon assign block end kind command (t.Block b) = block b
-by-token P name constant colon semicolon assign block end kind command t.EndBlock = end
-by-token P name constant colon semicolon assign block end kind command (t.Kind k) = kind k
-by-token P name constant colon semicolon assign block end kind command (t.Command c) = command c
 
 module _ (d : Draft) where
   roomy-initial : (x : Declaration) (a b : Constant) → VariableFits d → FitRoomy d (begun x a b)

@@ -34,7 +34,8 @@ use Rattle.reading.specs.Names.{variableName, hasName, found}
 use Rattle.reading.specs.Drafts.{Draft, entered, withVariable, withStatement, ifVariableFits, ifStatementFits, isKnown, ifNew, begunWith, completed, completedBy, asVariable, variableAt, declaredIn, applied, roomForVariables, roomForStatements}
 use Rattle.reading.specs.Statements.{stepAt}
 use Rattle.reading.specs.Reading.{onward, goOn, takenFrom, blankDraft}
-use Rattle.reading.specs.Formed.{operandIn}
+use Rattle.reading.specs.Formed.{isProper, operandIn, inOrder}
+use Rattle.reading.proofs.Proper.{ProperStage, ProperStep, ProperFit, proper-step}
 
 -- what an operation says before jumps have their targets
 abbrev pub declaredOnly : ℕ → Operation → Bool
@@ -46,12 +47,13 @@ declaredOnly v (Store s i) = ltb i v
 declaredOnly v (Jump j t) = true
 
 abbrev pub InOrder : Variable → Type 0
-InOrder v = leZ (v .range .low) (v .range .high) ≡ true
+InOrder v = inOrder v ≡ true
 
 pub record Sound (d : Draft) : Type 0 where
   pub variables-fit : d .progress .variables ≤ roomForVariables d
   pub statements-fit : d .progress .statements ≤ roomForStatements d
   pub operands : (i : ℕ) → i < d .progress .statements → declaredOnly (d .progress .variables) (getD (d .statements) i noStatement .operation) ≡ true
+  pub stage-proper : ProperStage (d .progress .stage)
   pub ordered : (j : ℕ) → j < d .progress .variables → InOrder (getD (d .variables) j noVariable)
   pub variables-rest : (j : ℕ) → d .progress .variables ≤ j → getD (d .variables) j noVariable ≡ noVariable
   pub statements-rest : (i : ℕ) → d .progress .statements ≤ i → getD (d .statements) i noStatement ≡ noStatement
@@ -80,21 +82,23 @@ module _ {X : Type 0} (xs : List X) (n : ℕ) (x none : X) (P : X → Type 0) wh
   rest-set rest i l = getD-set-other xs n i x none (λ e. omega (arith, e)) ∙ rest i (omega arith)
 
 module _ (d : Draft) (s : Sound d) where
-  pub sound-entered : (stage : Stage) → Sound (entered d stage)
-  sound-entered stage = record { variables-fit = s .variables-fit; statements-fit = s .statements-fit; operands = s .operands; ordered = s .ordered; variables-rest = s .variables-rest; statements-rest = s .statements-rest }
+  pub sound-entered : (stage : Stage) → ProperStage stage → Sound (entered d stage)
+  sound-entered stage proper = record { stage-proper = proper; variables-fit = s .variables-fit; statements-fit = s .statements-fit; operands = s .operands; ordered = s .ordered; variables-rest = s .variables-rest; statements-rest = s .statements-rest }
 
-  pub sound-variable : (x : Declaration) (stage : Stage) → d .progress .variables < roomForVariables d → Sound (withVariable d (declaredAs x) stage)
-  sound-variable x stage h = record {
+  pub sound-variable : (x : Declaration) (stage : Stage) → isProper (x .initial) ≡ true → ProperStage stage → d .progress .variables < roomForVariables d → Sound (withVariable d (declaredAs x) stage)
+  sound-variable x stage initial proper h = record {
+    stage-proper = proper;
     variables-fit = simp length-set (omega arith);
     statements-fit = s .statements-fit;
     operands = λ i l. declared-more (d .progress .variables) (getD (d .statements) i noStatement .operation) (s .operands i l);
-    ordered = each-set (d .variables) (d .progress .variables) (declaredAs x) noVariable InOrder (omega arith) (s .ordered) refl;
+    ordered = each-set (d .variables) (d .progress .variables) (declaredAs x) noVariable InOrder (omega arith) (s .ordered) initial;
     variables-rest = rest-set (d .variables) (d .progress .variables) (declaredAs x) noVariable (λ _. Unit {0}) (s .variables-rest);
     statements-rest = s .statements-rest;
   }
 
-  pub sound-statement : (t : Statement) (stage : Stage) → declaredOnly (d .progress .variables) (t .operation) ≡ true → d .progress .statements < roomForStatements d → Sound (withStatement d t stage)
-  sound-statement t stage e h = record {
+  pub sound-statement : (t : Statement) (stage : Stage) → ProperStage stage → declaredOnly (d .progress .variables) (t .operation) ≡ true → d .progress .statements < roomForStatements d → Sound (withStatement d t stage)
+  sound-statement t stage proper e h = record {
+    stage-proper = proper;
     variables-fit = s .variables-fit;
     statements-fit = simp length-set (omega arith);
     operands = each-set (d .statements) (d .progress .statements) t noStatement (λ u. declaredOnly (d .progress .variables) (u .operation) ≡ true) (omega arith) (s .operands) e;
@@ -133,7 +137,7 @@ module _ (d : Draft) (place : ℕ) (next : Draft) where
 
 module _ (text : List ℕ) (d : Draft) (s : Sound d) where
   sound-completed : (o : Operation) (place : ℕ) → declaredOnly (d .progress .variables) o ≡ true → SoundAnswer (completed d o place)
-  sound-completed o place e = if-statement-fits d place _ (sound-statement d s (record { operation = o; place = place }) _ e)
+  sound-completed o place e = if-statement-fits d place _ (sound-statement d s (record { operation = o; place = place }) _ tt e)
 
   sound-completed-by : (make : ℕ → Operation) (place : ℕ) (name : Name) → ((i : ℕ) → ltb i (d .progress .variables) ≡ true → declaredOnly (d .progress .variables) (make i) ≡ true) → SoundAnswer (completedBy d make place (variableAt text (declaredIn d) name))
   sound-completed-by make place name ok = by (found variableName text name 0 (declaredIn d)) (found-within variableName text name 0 (declaredIn d))
@@ -143,22 +147,22 @@ module _ (text : List ℕ) (d : Draft) (s : Sound d) where
       by (Some i) h = sound-completed (make i) place (ok i (lt-ltb i (d .progress .variables) (omega (arith, h i refl, length-take-le (d .progress .variables) (d .variables) (omega (arith, s .variables-fit))))))
 
   sound-begun : (place : ℕ) (command : Command) → d .progress .statements < roomForStatements d → Sound (begunWith d place command)
-  sound-begun place c.Ret h = sound-statement d s _ _ refl h
-  sound-begun place c.Not h = sound-statement d s _ _ refl h
-  sound-begun place (c.Apply o) h = sound-entered d s _
-  sound-begun place (c.Store o) h = sound-entered d s _
-  sound-begun place (c.Jump o) h = sound-entered d s _
+  sound-begun place c.Ret h = sound-statement d s _ _ tt refl h
+  sound-begun place c.Not h = sound-statement d s _ _ tt refl h
+  sound-begun place (c.Apply o) h = sound-entered d s _ tt
+  sound-begun place (c.Store o) h = sound-entered d s _ tt
+  sound-begun place (c.Jump o) h = sound-entered d s _ tt
 
-  pub sound-applied : (name : Name) (word : Step) → SoundAnswer (applied text d name word)
-  sound-applied name (step.Enter stage) = sound-entered d s stage
-  sound-applied name (step.Declare class) = sound-unless (isKnown text d name) _ _ (if-variable-fits d (name .place) _ (λ _. sound-entered d s _))
-  sound-applied name (step.Keep x) = if-variable-fits d (x .name .place) _ (sound-variable d s x _)
-  sound-applied name (step.Begin command) = if-statement-fits d (name .place) _ (sound-begun (name .place) command)
-  sound-applied name step.Label = sound-unless (isKnown text d name) _ _ (if-statement-fits d (name .place) _ (sound-statement d s _ _ refl))
-  sound-applied name (step.Complete o k place) = sound-completed (Apply o (operand.Constant k)) place refl
-  sound-applied name (step.Use o place) = sound-completed-by (λ i. Apply o (operand.Variable i)) place name (λ i e. e)
-  sound-applied name (step.Change o place) = sound-completed-by (λ i. Store o i) place name (λ i e. e)
-  sound-applied name (step.Aim j place) = sound-completed (Jump j (record { name = name; statement = 0 })) place refl
+  pub sound-applied : (name : Name) (word : Step) → ProperStep word → SoundAnswer (applied text d name word)
+  sound-applied name (step.Enter stage) proper = sound-entered d s stage proper
+  sound-applied name (step.Declare class) proper = sound-unless (isKnown text d name) _ _ (if-variable-fits d (name .place) _ (λ _. sound-entered d s _ tt))
+  sound-applied name (step.Keep x) proper = if-variable-fits d (x .name .place) _ (sound-variable d s x _ proper tt)
+  sound-applied name (step.Begin command) proper = if-statement-fits d (name .place) _ (sound-begun (name .place) command)
+  sound-applied name step.Label proper = sound-unless (isKnown text d name) _ _ (if-statement-fits d (name .place) _ (sound-statement d s _ _ tt refl))
+  sound-applied name (step.Complete o k place) proper = sound-completed (Apply o (operand.Constant k)) place proper
+  sound-applied name (step.Use o place) proper = sound-completed-by (λ i. Apply o (operand.Variable i)) place name (λ i e. e)
+  sound-applied name (step.Change o place) proper = sound-completed-by (λ i. Store o i) place name (λ i e. e)
+  sound-applied name (step.Aim j place) proper = sound-completed (Jump j (record { name = name; statement = 0 })) place refl
 
 -- a text that begins with a sound draft ends with one
 module _ (text : List ℕ) where
@@ -166,14 +170,14 @@ module _ (text : List ℕ) where
   sound-onward (Ok d) next s f = f d s
   sound-onward (Err e) next s f = tt
 
-  sound-goes-on : (d : Draft) → Sound d → (r : Result (Option (Name × Step × ℕ)) StatementFault) (next : ℕ → Draft → Result Draft ProgramFault) → ((q : ℕ) (e : Draft) → Sound e → SoundAnswer (next q e)) → SoundAnswer (goOn text d r next)
-  sound-goes-on d s (Err e) next f = tt
-  sound-goes-on d s (Ok None) next f = s
-  sound-goes-on d s (Ok (Some x)) next f = sound-onward (applied text d (x .0) (x .1)) (next (x .2)) (sound-applied text d s (x .0) (x .1)) (f (x .2))
+  sound-goes-on : (d : Draft) → Sound d → (r : Result (Option (Name × Step × ℕ)) StatementFault) → ProperFit r → (next : ℕ → Draft → Result Draft ProgramFault) → ((q : ℕ) (e : Draft) → Sound e → SoundAnswer (next q e)) → SoundAnswer (goOn text d r next)
+  sound-goes-on d s (Err e) proper next f = tt
+  sound-goes-on d s (Ok None) proper next f = s
+  sound-goes-on d s (Ok (Some x)) proper next f = sound-onward (applied text d (x .0) (x .1)) (next (x .2)) (sound-applied text d s (x .0) (x .1) proper) (f (x .2))
 
   pub sound-taken : (n p : ℕ) (d : Draft) → Sound d → SoundAnswer (takenFrom n text p d)
   sound-taken zero p d s = s
-  sound-taken (suc n) p d s = sound-goes-on d s (stepAt text p (d .progress .stage)) (λ q e. takenFrom n text q e) (λ q e. sound-taken n q e)
+  sound-taken (suc n) p d s = sound-goes-on d s (stepAt text p (d .progress .stage)) (proper-step text p (d .progress .stage) (s .stage-proper)) (λ q e. takenFrom n text q e) (λ q e. sound-taken n q e)
 
 blank-each : {X : Type 0} (n i : ℕ) (x : X) → getD (replicate n x) i x ≡ x
 blank-each n i x = ⊎-elim (λ l. getD-replicate n i x x l) (λ l. getD-past (replicate n x) i x (simp length-replicate l)) (cases-lt i n)
@@ -181,6 +185,7 @@ blank-each n i x = ⊎-elim (λ l. getD-replicate n i x x l) (λ l. getD-past (r
 -- a draft of blank records is sound
 pub sound-blank : (nv ns : ℕ) → Sound (blankDraft nv ns)
 sound-blank nv ns = record {
+  stage-proper = tt;
   variables-fit = omega arith;
   statements-fit = omega arith;
   operands = λ i l. absurd (omega arith);

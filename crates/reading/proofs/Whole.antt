@@ -6,7 +6,6 @@ use mathlib.Core.Logic.{⊎-elim}
 use Prim.Native.Nat.{ℕ, zero, suc, _+_, _-_, _<_, _≤_}
 use native.Mathlib.Omega.{arith}
 use lib.Dec.{ltb}
-use lib.Signed.{leZ}
 use lib.ListN.{length, getD, take, drop}
 use Rattle.std.proofs.shelf.Lists.{length-take-le, length-append, getD-take, getD-drop, getD-past, getD-append-right, take-at}
 use Rattle.std.proofs.shelf.Tests.{ltb-true, cases-lt, and-parts}
@@ -26,7 +25,7 @@ use Rattle.reading.specs.declared.fault.ProgramFault.the-variants.{NoReturn, T
 use Rattle.reading.specs.Names.{labelName, sameAs, hasName, found}
 use Rattle.reading.specs.Drafts.{Draft, draftOf}
 use Rattle.reading.specs.Reading.{onward, aimed, aimedAt, aimedStatement, aimedAll, labelIn, isReturn, endsWithReturn, ended, finished, taken, programIn, answeredBy, reading, blankDraft}
-use Rattle.reading.specs.Formed.{namesOnly, Whole, Returning, Formed, Filled}
+use Rattle.reading.specs.Formed.{namesOnly, inOrder, Whole, Returning, Formed, Filled}
 use Rattle.reading.proofs.Aims.{aimed-label}
 use Rattle.reading.proofs.Sound.{Sound, SoundAnswer, declaredOnly, sound-taken, sound-blank}
 
@@ -160,7 +159,7 @@ module _ (text : List ℕ) (nv ns : ℕ) (d : Draft) (s : Sound d) where
         short = omega (arith, ap length taken-again, long, s .statements-fit);
         whole = subst (λ ts. Whole (length (take v (d .variables))) ts) (sym taken-again) (subst (λ v. Whole v ts) (sym vs-long) (whole-aimed text v used ts e declared-used));
         returning = subst Returning (sym taken-again) (returning-aimed text v used ts e (last-used r));
-        ordered = λ j l. let lt : j < v = omega (arith, vs-long) in subst (λ x. leZ (x .range .low) (x .range .high) ≡ true) (sym (getD-take v (d .variables) j noVariable lt)) (s .ordered j lt);
+        ordered = λ j l. let lt : j < v = omega (arith, vs-long) in subst (λ x. inOrder x ≡ true) (sym (getD-take v (d .variables) j noVariable lt)) (s .ordered j lt);
       };
       variables-rest = s .variables-rest;
       statements-rest = λ i l. let same : n + (i - n) ≡ i = omega arith in getD-append-right ts (drop n (d .statements)) n i noStatement long l ∙ getD-drop n (d .statements) (i - n) noStatement ∙ ap (λ k. getD (d .statements) k noStatement) same ∙ s .statements-rest i l;

@@ -1,14 +1,17 @@
 -- When records make a program: what its statements name is there, it ends with RET, and its ranges are in order.
 use mathlib.Core.Path.{_≡_}
-use mathlib.Core.Bool.{Bool, true}
+use mathlib.Core.Bool.{Bool, true, _&&_}
 use mathlib.Core.List.{List}
 use Prim.Native.Nat.{ℕ, _+_, _<_, _≤_}
 use lib.Dec.{ltb}
 use lib.Signed.{leZ}
 use lib.ListN.{length, getD, take}
 use Rattle.std.specs.Options.{isSome}
+use Rattle.numbers.specs.Int.{isInt}
+use Rattle.syntax.specs.declared.record.Constant.{Constant}
+use Rattle.syntax.specs.declared.record.Constant.the-variants.{Bool as bool, Int as int}
 use Rattle.syntax.specs.declared.record.Operand.{Operand}
-use Rattle.syntax.specs.declared.record.Operand.the-variants.{Constant, Variable as variable}
+use Rattle.syntax.specs.declared.record.Operand.the-variants.{Constant as constant, Variable as variable}
 use Rattle.syntax.specs.declared.record.Operation.{Operation}
 use Rattle.syntax.specs.declared.record.Operation.the-variants.{Return, Not, Label, Apply, Store, Jump}
 use Rattle.syntax.specs.declared.record.Variable.{Variable}
@@ -18,9 +21,14 @@ use Rattle.reading.specs.declared.draft.Extent.{Extent}
 use Rattle.reading.specs.Names.{labelName}
 use Rattle.reading.specs.Reading.{isReturn}
 
--- an operand is a constant, or one of v variables
+-- a constant is a truth or an INT
+abbrev pub isProper : Constant → Bool
+isProper (bool b) = true
+isProper (int n) = isInt n
+
+-- an operand is such a constant, or one of v variables
 abbrev pub operandIn : ℕ → Operand → Bool
-operandIn v (Constant k) = true
+operandIn v (constant k) = isProper k
 operandIn v (variable i) = ltb i v
 
 -- an operation names only what is there: v variables, and labels among the statements
@@ -40,9 +48,13 @@ Whole v ss = (i : ℕ) → i < length ss → namesOnly v ss (getD ss i noStateme
 abbrev pub Returning : List Statement → Type 0
 Returning ss = (i : ℕ) → i + 1 ≡ length ss → isReturn (getD ss i noStatement .operation) ≡ true
 
--- no range has its low above its high
+-- a variable's initial value is a truth or an INT, and its range lies inside INT with its low not above its high
+abbrev pub inOrder : Variable → Bool
+inOrder v = leZ (v .range .low) (v .range .high) && (isInt (v .range .low) && (isInt (v .range .high) && isProper (v .declaration .initial)))
+
+-- all variables are so
 abbrev pub Ordered : List Variable → Type 0
-Ordered vs = (j : ℕ) → j < length vs → leZ (getD vs j noVariable .range .low) (getD vs j noVariable .range .high) ≡ true
+Ordered vs = (j : ℕ) → j < length vs → inOrder (getD vs j noVariable) ≡ true
 
 -- variables and statements that make a program; none at all do
 pub record Formed (vs : List Variable) (ss : List Statement) : Type 0 where
