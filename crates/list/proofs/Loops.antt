@@ -1,0 +1,79 @@
+-- Steps and ends of the loops over a slice: what is left of it gives the answer.
+use mathlib.Core.Path.{_≡_, refl, sym, ap, _∙_, subst}
+use mathlib.Core.Bool.{Bool, true, false, not, _&&_, _||_}
+use mathlib.Core.List.{List, [], _∷_, _++_}
+use Prim.Native.Nat.{ℕ, _+_, _-_, _<_, _≤_}
+use native.Mathlib.Omega.{arith}
+use lib.IntN.{ℤ, pos}
+use lib.ListN.{length, getD, drop}
+use lib.Signed.{ltZ, leZ}
+use mir.Syntax.{w16}
+use mir.Val.{SFits, toZ, ofZ}
+use Rattle.std.proofs.shelf.Lists.{at-drop-more, at-drop-all, drop-more, length-drop}
+use Rattle.std.proofs.shelf.Signed.{ints, toZ-ofZ}
+use Rattle.std.proofs.shelf.Sums.{leading-drop-yes, leading-drop-no, leading-drop-all}
+use Rattle.std.proofs.shelf.Ways.{tells}
+use Rattle.std.specs.shelf.Lists.{leading}
+use Rattle.numbers.specs.Arithmetic.{eqZ}
+use Rattle.list.specs.Numbers.{member, all-in, rising, ascending}
+
+-- a number as the code passes it on
+abbrev pub passed : ℤ → ℤ
+passed n = toZ w16 (ofZ w16 n)
+
+-- numbers with the same bits, or with others
+pub same-bits : (x n : ℤ) → SFits w16 x → ofZ w16 x ≡ ofZ w16 n → x ≡ passed n
+same-bits x n f e = sym (toZ-ofZ w16 x f) ∙ ap (toZ w16) e
+
+pub other-bits : (x n : ℤ) → SFits w16 n → (ofZ w16 x ≡ ofZ w16 n → ⊥) → x ≡ passed n → ⊥
+other-bits x n f ne e = ne (ap (ofZ w16) (e ∙ toZ-ofZ w16 n f))
+
+-- a test `y <= x` of the code, turned round
+pub turned : (x y : ℤ) (b : Bool) → SFits w16 x → SFits w16 y → leZ (passed y) (passed x) ≡ b → ltZ x y ≡ not b
+turned x y b f g e = flip x y b (ap (λ z. leZ z x) (sym (toZ-ofZ w16 y g)) ∙ ap (leZ (passed y)) (sym (toZ-ofZ w16 x f)) ∙ e)
+  where
+  flip : (x y : ℤ) (b : Bool) → leZ y x ≡ b → ltZ x y ≡ not b
+  flip x y true e = grind (arith, ints, tells)
+  flip x y false e = grind (arith, ints, tells)
+
+eqZ-same : (x y : ℤ) → x ≡ y → eqZ x y ≡ true
+eqZ-same x y e = grind (arith, ints, tells)
+
+eqZ-other : (x y : ℤ) → (x ≡ y → ⊥) → eqZ x y ≡ false
+eqZ-other x y ne = grind (arith, ints, tells)
+
+pub member-more : (ns : List ℤ) (i : ℕ) (n : ℤ) → i < length ns → (getD ns i (pos 0) ≡ n → ⊥) → member n (drop i ns) ≡ member n ns → member n (drop (i + 1) ns) ≡ member n ns
+member-more ns i n l ne inv =
+    let step : member n (drop i ns) ≡ (eqZ (getD ns i (pos 0)) n || member n (drop (i + 1) ns)) = at-drop-more (member n) ns i (pos 0) l in
+    let no = eqZ-other (getD ns i (pos 0)) n ne in
+    sym (step ∙ ap (λ b. b || member n (drop (i + 1) ns)) no) ∙ inv
+
+pub member-found : (ns : List ℤ) (i : ℕ) (n : ℤ) → i < length ns → getD ns i (pos 0) ≡ n → member n (drop i ns) ≡ member n ns → true ≡ member n ns
+member-found ns i n l e inv =
+    let step : member n (drop i ns) ≡ (eqZ (getD ns i (pos 0)) n || member n (drop (i + 1) ns)) = at-drop-more (member n) ns i (pos 0) l in
+    let yes = eqZ-same (getD ns i (pos 0)) n e in
+    sym (step ∙ ap (λ b. b || member n (drop (i + 1) ns)) yes) ∙ inv
+
+pub all-in-step : (ns ys : List ℤ) (i : ℕ) (b : Bool) → i < length ns → member (getD ns i (pos 0)) ys ≡ b → all-in (drop i ns) ys ≡ all-in ns ys → (b && all-in (drop (i + 1) ns) ys) ≡ all-in ns ys
+all-in-step ns ys i b l m inv =
+    let step : all-in (drop i ns) ys ≡ (member (getD ns i (pos 0)) ys && all-in (drop (i + 1) ns) ys) = at-drop-more (λ xs. all-in xs ys) ns i (pos 0) l in
+    sym (step ∙ ap (λ b. b && all-in (drop (i + 1) ns) ys) m) ∙ inv
+
+pub ascending-step : (ns : List ℤ) (i : ℕ) (b : Bool) → 1 ≤ i → i < length ns → ltZ (getD ns (i - 1) (pos 0)) (getD ns i (pos 0)) ≡ b → ascending (drop (i - 1) ns) ≡ ascending ns → (b && ascending (drop i ns)) ≡ ascending ns
+ascending-step ns i b g l t inv =
+    let one : drop (i - 1) ns ≡ getD ns (i - 1) (pos 0) ∷ drop (i - 1 + 1) ns = drop-more ns (i - 1) (pos 0) (omega arith) in
+    let back : i - 1 + 1 ≡ i = omega arith in
+    let two : drop i ns ≡ getD ns i (pos 0) ∷ drop (i + 1) ns = drop-more ns i (pos 0) l in
+    let both : drop (i - 1) ns ≡ getD ns (i - 1) (pos 0) ∷ (getD ns i (pos 0) ∷ drop (i + 1) ns) = one ∙ ap (λ k. getD ns (i - 1) (pos 0) ∷ drop k ns) back ∙ ap (λ xs. getD ns (i - 1) (pos 0) ∷ xs) two in
+    let left : ascending (drop (i - 1) ns) ≡ (ltZ (getD ns (i - 1) (pos 0)) (getD ns i (pos 0)) && rising (getD ns i (pos 0)) (drop (i + 1) ns)) = ap ascending both in
+    let right : ascending (drop i ns) ≡ rising (getD ns i (pos 0)) (drop (i + 1) ns) = ap ascending two in
+    ap (λ a. b && a) right ∙ ap (λ a. a && rising (getD ns i (pos 0)) (drop (i + 1) ns)) (sym t) ∙ sym left ∙ inv
+
+-- one number is left, or none
+pub ascending-end : (ns : List ℤ) (i : ℕ) → 1 ≤ i → length ns ≤ i → ascending (drop (i - 1) ns) ≡ true
+ascending-end ns i g l = short (drop (i - 1) ns) (omega (arith, length-drop (i - 1) ns))
+  where
+  short : (xs : List ℤ) → length xs ≤ 1 → ascending xs ≡ true
+  short [] h = refl
+  short (x ∷ []) h = refl
+  short (x ∷ (y ∷ xs)) h = absurd (omega arith)

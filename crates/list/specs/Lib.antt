@@ -1,0 +1,3 @@
+pub mod Insertion
+pub mod NumberList
+pub mod Numbers
