@@ -9,13 +9,12 @@ use lib.ListN.{length, getD, drop}
 use lib.Signed.{ltZ, leZ}
 use mir.Syntax.{w16}
 use mir.Val.{SFits, toZ, ofZ}
-use Rattle.std.proofs.shelf.Lists.{at-drop-more, at-drop-all, drop-more, length-drop}
+use Rattle.std.proofs.shelf.Lists.{at-drop-more, drop-more, length-drop}
 use Rattle.std.proofs.shelf.Signed.{ints, toZ-ofZ}
-use Rattle.std.proofs.shelf.Sums.{leading-drop-yes, leading-drop-no, leading-drop-all}
 use Rattle.std.proofs.shelf.Ways.{tells}
-use Rattle.std.specs.shelf.Lists.{leading}
+use Rattle.std.specs.shelf.Lists.{folded}
 use Rattle.numbers.specs.Arithmetic.{eqZ}
-use Rattle.list.specs.Numbers.{member, all-in, rising, ascending}
+use Rattle.list.specs.Numbers.{rising, ascending}
 
 -- a number as the code passes it on
 abbrev pub passed : ℤ → ℤ
@@ -36,28 +35,30 @@ turned x y b f g e = flip x y b (ap (λ z. leZ z x) (sym (toZ-ofZ w16 y g)) ∙ 
   flip x y true e = grind (arith, ints, tells)
   flip x y false e = grind (arith, ints, tells)
 
-eqZ-same : (x y : ℤ) → x ≡ y → eqZ x y ≡ true
+pub eqZ-same : (x y : ℤ) → x ≡ y → eqZ x y ≡ true
 eqZ-same x y e = grind (arith, ints, tells)
 
-eqZ-other : (x y : ℤ) → (x ≡ y → ⊥) → eqZ x y ≡ false
+pub eqZ-other : (x y : ℤ) → (x ≡ y → ⊥) → eqZ x y ≡ false
 eqZ-other x y ne = grind (arith, ints, tells)
 
-pub member-more : (ns : List ℤ) (i : ℕ) (n : ℤ) → i < length ns → (getD ns i (pos 0) ≡ n → ⊥) → member n (drop i ns) ≡ member n ns → member n (drop (i + 1) ns) ≡ member n ns
-member-more ns i n l ne inv =
-    let step : member n (drop i ns) ≡ (eqZ (getD ns i (pos 0)) n || member n (drop (i + 1) ns)) = at-drop-more (member n) ns i (pos 0) l in
-    let no = eqZ-other (getD ns i (pos 0)) n ne in
-    sym (step ∙ ap (λ b. b || member n (drop (i + 1) ns)) no) ∙ inv
+-- a test of a list that is the test of its first number, or that of the rest
+pub or-step : (F : List ℤ → Bool) (t : ℤ → Bool) → ((x : ℤ) (xs : List ℤ) → F (x ∷ xs) ≡ (t x || F xs)) → (ns : List ℤ) (i : ℕ) (b : Bool) → i < length ns → t (getD ns i (pos 0)) ≡ b → F (drop i ns) ≡ F ns → (b || F (drop (i + 1) ns)) ≡ F ns
+or-step F t cons ns i b l e inv =
+    ap (λ a. a || F (drop (i + 1) ns)) (sym e) ∙ sym (at-drop-more F ns i (pos 0) l ∙ cons _ _) ∙ inv
 
-pub member-found : (ns : List ℤ) (i : ℕ) (n : ℤ) → i < length ns → getD ns i (pos 0) ≡ n → member n (drop i ns) ≡ member n ns → true ≡ member n ns
-member-found ns i n l e inv =
-    let step : member n (drop i ns) ≡ (eqZ (getD ns i (pos 0)) n || member n (drop (i + 1) ns)) = at-drop-more (member n) ns i (pos 0) l in
-    let yes = eqZ-same (getD ns i (pos 0)) n e in
-    sym (step ∙ ap (λ b. b || member n (drop (i + 1) ns)) yes) ∙ inv
+-- the same with `and`
+pub and-step : (F : List ℤ → Bool) (t : ℤ → Bool) → ((x : ℤ) (xs : List ℤ) → F (x ∷ xs) ≡ (t x && F xs)) → (ns : List ℤ) (i : ℕ) (b : Bool) → i < length ns → t (getD ns i (pos 0)) ≡ b → F (drop i ns) ≡ F ns → (b && F (drop (i + 1) ns)) ≡ F ns
+and-step F t cons ns i b l e inv =
+    ap (λ a. a && F (drop (i + 1) ns)) (sym e) ∙ sym (at-drop-more F ns i (pos 0) l ∙ cons _ _) ∙ inv
 
-pub all-in-step : (ns ys : List ℤ) (i : ℕ) (b : Bool) → i < length ns → member (getD ns i (pos 0)) ys ≡ b → all-in (drop i ns) ys ≡ all-in ns ys → (b && all-in (drop (i + 1) ns) ys) ≡ all-in ns ys
-all-in-step ns ys i b l m inv =
-    let step : all-in (drop i ns) ys ≡ (member (getD ns i (pos 0)) ys && all-in (drop (i + 1) ns) ys) = at-drop-more (λ xs. all-in xs ys) ns i (pos 0) l in
-    sym (step ∙ ap (λ b. b && all-in (drop (i + 1) ns) ys) m) ∙ inv
+pub folded-append : {S : Type 0} (f : S → ℤ → S) (s : S) (xs ys : List ℤ) → folded f s (xs ++ ys) ≡ folded f (folded f s xs) ys
+folded-append f s [] ys = refl
+folded-append f s (x ∷ xs) ys = folded-append f (f s x) xs ys
+
+-- a fold over what each number of the list gives
+pub fold-step : {S : Type 0} (f : S → ℤ → S) (F : List ℤ → List ℤ) (part : ℤ → List ℤ) → ((x : ℤ) (xs : List ℤ) → F (x ∷ xs) ≡ part x ++ F xs) → (ns : List ℤ) (i : ℕ) (s t r : S) → i < length ns → t ≡ folded f s (part (getD ns i (pos 0))) → folded f s (F (drop i ns)) ≡ r → folded f t (F (drop (i + 1) ns)) ≡ r
+fold-step f F part cons ns i s t r l e inv =
+    ap (λ a. folded f a (F (drop (i + 1) ns))) e ∙ sym (folded-append f s (part _) _) ∙ ap (folded f s) (sym (at-drop-more F ns i (pos 0) l ∙ cons _ _)) ∙ inv
 
 pub ascending-step : (ns : List ℤ) (i : ℕ) (b : Bool) → 1 ≤ i → i < length ns → ltZ (getD ns (i - 1) (pos 0)) (getD ns i (pos 0)) ≡ b → ascending (drop (i - 1) ns) ≡ ascending ns → (b && ascending (drop i ns)) ≡ ascending ns
 ascending-step ns i b g l t inv =

@@ -1,4 +1,4 @@
-use mathlib.Core.Path.{_≡_, sym, ap, _∙_}
+use mathlib.Core.Path.{_≡_, refl, sym, ap, _∙_}
 use mathlib.Core.Bool.{Bool, true, false}
 use mathlib.Core.List.{List}
 use borrow.Author.Needs.{needs}
@@ -9,7 +9,7 @@ use mir.Val.{SFits}
 use Rattle.std.proofs.shelf.Lists.{at-drop-all}
 use Rattle.std.proofs.shelf.Signed.{toZ-ofZ}
 use Rattle.list.specs.Numbers.{member, all-in}
-use Rattle.list.proofs.Loops.{all-in-step}
+use Rattle.list.proofs.Loops.{and-step}
 use Rattle.list.proofs.numbers_of.has_all.Needs as need
 
 pub loop-n-again : need.loop-n-again
@@ -19,7 +19,7 @@ loop-n-again c =
     let i = c .loop-n .n-index in
     let fits : SFits w16 (getD ns i (pos 0)) = search needs in
     let yes : member (getD ns i (pos 0)) ys ≡ true = ap (λ z. member z ys) (sym (toZ-ofZ w16 _ fits)) ∙ sym (c .has .ensures) ∙ c .if-not-has .left in
-    all-in-step ns ys i true (c .loop-n-test .taken) yes (c .loop-n .inv)
+    and-step (λ xs. all-in xs ys) (λ x. member x ys) (λ _ _. refl) ns i true (c .loop-n-test .taken) yes (c .loop-n .inv)
 
 pub returns-then-not-has : need.returns-then-not-has
 returns-then-not-has c =
@@ -28,7 +28,7 @@ returns-then-not-has c =
     let i = c .loop-n .n-index in
     let fits : SFits w16 (getD ns i (pos 0)) = search needs in
     let no : member (getD ns i (pos 0)) ys ≡ false = ap (λ z. member z ys) (sym (toZ-ofZ w16 _ fits)) ∙ sym (c .has .ensures) ∙ c .if-not-has .taken in
-    all-in-step ns ys i false (c .loop-n-test .taken) no (c .loop-n .inv)
+    and-step (λ xs. all-in xs ys) (λ x. member x ys) (λ _ _. refl) ns i false (c .loop-n-test .taken) no (c .loop-n .inv)
 
 pub returns : need.returns
 returns c = sym (at-drop-all (λ xs. all-in xs (c .args .others .now)) (c .args .numbers .now) (c .loop-n .n-index) (c .loop-n-test .left)) ∙ c .loop-n .inv
