@@ -2,19 +2,20 @@
 use mathlib.Core.Path.{_≡_, refl, sym, ap, _∙_, subst}
 use mathlib.Core.Bool.{Bool, true, false, not, _&&_, _||_}
 use mathlib.Core.List.{List, [], _∷_, _++_}
-use Prim.Native.Nat.{ℕ, _+_, _-_, _<_, _≤_}
+use Prim.Native.Nat.{ℕ, zero, suc, _+_, _-_, _<_, _≤_}
 use native.Mathlib.Omega.{arith}
-use lib.IntN.{ℤ, pos}
+use lib.IntN.{ℤ, pos, _+ℤ_}
 use lib.ListN.{length, getD, drop}
 use lib.Signed.{ltZ, leZ}
 use mir.Syntax.{w16}
 use mir.Val.{SFits, toZ, ofZ}
 use Rattle.std.proofs.shelf.Lists.{at-drop-more, drop-more, length-drop}
 use Rattle.std.proofs.shelf.Signed.{ints, toZ-ofZ}
+use Rattle.std.proofs.shelf.Tests.{cond-true, cond-false}
 use Rattle.std.proofs.shelf.Ways.{tells}
 use Rattle.std.specs.shelf.Lists.{folded}
 use Rattle.numbers.specs.Arithmetic.{eqZ}
-use Rattle.list.specs.Numbers.{rising, ascending}
+use Rattle.list.specs.Numbers.{rising, ascending, counted}
 
 -- a number as the code passes it on
 abbrev pub passed : ℤ → ℤ
@@ -78,3 +79,28 @@ ascending-end ns i g l = short (drop (i - 1) ns) (omega (arith, length-drop (i -
   short [] h = refl
   short (x ∷ []) h = refl
   short (x ∷ (y ∷ xs)) h = absurd (omega arith)
+
+-- no number counts up from above b
+pub counted-none : (k : ℕ) (a b : ℤ) → ltZ b a ≡ true → counted k a b ≡ []
+counted-none zero a b h = refl
+counted-none (suc k) a b h = cond-false _ _ _ (above a b h)
+  where
+    above : (a b : ℤ) → ltZ b a ≡ true → leZ a b ≡ false
+    above a b h = grind (arith, ints, tells)
+
+-- else a does, and what follows it
+pub counted-more : (k : ℕ) (a b : ℤ) → (k ≡ 0 → ⊥) → ltZ b a ≡ false → counted k a b ≡ a ∷ counted (k - 1) (a +ℤ pos 1) b
+counted-more zero a b nz h = absurd (nz refl)
+counted-more (suc k) a b nz h = cond-true _ _ _ (below a b h) ∙ ap (λ m. a ∷ counted m (a +ℤ pos 1) b) (omega arith)
+  where
+    below : (a b : ℤ) → ltZ b a ≡ false → leZ a b ≡ true
+    below a b h = grind (arith, ints, tells)
+
+-- a alone where it is b
+pub counted-last : (k : ℕ) (a b : ℤ) → (k ≡ 0 → ⊥) → a ≡ b → counted k a b ≡ a ∷ []
+counted-last k a b nz e = counted-more k a b nz (level a b e) ∙ ap (λ xs. a ∷ xs) (counted-none (k - 1) (a +ℤ pos 1) b (next a b e))
+  where
+    level : (a b : ℤ) → a ≡ b → ltZ b a ≡ false
+    level a b e = grind (arith, ints, tells)
+    next : (a b : ℤ) → a ≡ b → ltZ b (a +ℤ pos 1) ≡ true
+    next a b e = grind (arith, ints, tells)

@@ -1,14 +1,19 @@
 // The list domain: up to eight INTs, or everything.
 ghost use mathlib.Core.Path.{_≡_};
+ghost use mathlib.Core.List.{[], _++_};
 ghost use Rattle.std.specs.shelf.Lists.{folded};
 ghost use Rattle.list.specs.Insertion.{put-in};
-ghost use Rattle.list.specs.NumberList.{listed, everything};
-ghost use Rattle.list.specs.Numbers.{if-any, row, pairs, some-with, some-pair};
+ghost use Rattle.list.specs.NumberList.{listed, everything, packed, smallest, is-empty, is-within, results, some, list-ops};
+ghost use Rattle.list.specs.Numbers.{if-any, row, pairs, some-with, some-pair, counted};
 ghost use Rattle.list.specs.Operations.{result, passes};
 mod numbers_of;
 mod operations;
+use domain::Domain;
+use domain::Truth;
 use numbers::Int;
 use numbers_of::ascends;
+use numbers_of::has;
+use numbers_of::has_all;
 use numbers_of::place_of;
 use numbers_of::shifted;
 use numbers_of::stands_at;
@@ -29,6 +34,17 @@ fn all() -> NumberList
 {
     NumberList {
         everything: true,
+        count: 0,
+        numbers: [0; 8],
+    }
+}
+
+// The set without a number.
+fn none() -> NumberList
+    ensures { λ r. ⌜ r ≡ packed [] ⌝ }
+{
+    NumberList {
+        everything: false,
         count: 0,
         numbers: [0; 8],
     }
@@ -136,4 +152,158 @@ fn some_pair(test: Test, xs: &[Int], ys: &[Int]) -> bool
         }
     }
     false
+}
+
+// The smallest set over the first numbers from `low` on that are not above `high`.
+fn count_up(set: NumberList, places: u8, low: Int, high: Int) -> NumberList
+    ensures { λ r. ⌜ r ≡ folded put-in set (counted places low high) ⌝ }
+{
+    if places == 0 || low > high {
+        return set;
+    }
+    let set = set.put(low);
+    if low == high {
+        return set;
+    }
+    count_up(set, places - 1, low + 1, high)
+}
+
+// The smallest set over two slices.
+fn union(xs: &[Int], ys: &[Int]) -> NumberList
+    ensures { λ r. ⌜ r ≡ smallest (now (xs .entry) ++ now (ys .entry)) ⌝ }
+{
+    none().put_all(xs).put_all(ys)
+}
+
+// The smallest set over the results of all pairs.
+fn all_results(operation: Operation, xs: &[Int], ys: &[Int]) -> NumberList
+    ensures { λ r. ⌜ r ≡ smallest (pairs (result operation) (now (xs .entry)) (now (ys .entry))) ⌝ }
+{
+    none().put_pairs(operation, xs, ys)
+}
+
+// Whether the record lists no number.
+fn lists_none(x: &NumberList) -> bool
+    ensures { λ r. ⌜ r ≡ is-empty (now (x .entry)) ⌝ }
+{
+    !x.everything && x.listed().is_empty()
+}
+
+// Whether every number of `x` is in `y`.
+fn lies_within(x: &NumberList, y: &NumberList) -> bool
+    ensures { λ r. ⌜ r ≡ is-within (now (x .entry)) (now (y .entry)) ⌝ }
+{
+    y.everything || !x.everything && has_all(y.listed(), x.listed())
+}
+
+// The results of an operation.
+fn results(operation: Operation, x: NumberList, y: NumberList) -> NumberList
+    ensures { λ r. ⌜ r ≡ results operation x y ⌝ }
+{
+    if lists_none(&x) || lists_none(&y) {
+        return none();
+    }
+    if x.everything || y.everything {
+        return all();
+    }
+    all_results(operation, x.listed(), y.listed())
+}
+
+// Whether some pair passes a test.
+fn some(test: Test, x: NumberList, y: NumberList) -> bool
+    ensures { λ r. ⌜ r ≡ some test x y ⌝ }
+{
+    if lists_none(&x) || lists_none(&y) {
+        return false;
+    }
+    if x.everything || y.everything {
+        return true;
+    }
+    some_pair(test, x.listed(), y.listed())
+}
+
+// The smallest set over the INTs from `low` to `high`.
+fn spanned(low: Int, high: Int) -> NumberList
+    ensures { λ r. ⌜ r ≡ smallest (counted 8 low high) ⌝ }
+{
+    count_up(none(), 8, low, high)
+}
+
+pub impl Domain for NumberList as ListDomain {
+    ghost ops = { list-ops };
+
+    fn span(low: Int, high: Int) -> NumberList {
+        if low as i32 + 7 < high as i32 {
+            return all();
+        }
+        spanned(low, high)
+    }
+
+    fn contains(self, n: Int) -> bool {
+        self.everything || has(self.listed(), n)
+    }
+
+    fn within(self, other: NumberList) -> bool {
+        lies_within(&self, &other)
+    }
+
+    fn is_empty(self) -> bool {
+        lists_none(&self)
+    }
+
+    fn add(self, other: NumberList) -> NumberList {
+        results(Operation::Add, self, other)
+    }
+
+    fn sub(self, other: NumberList) -> NumberList {
+        results(Operation::Sub, self, other)
+    }
+
+    fn mul(self, other: NumberList) -> NumberList {
+        results(Operation::Mul, self, other)
+    }
+
+    fn div(self, other: NumberList) -> NumberList {
+        results(Operation::Div, self, other)
+    }
+
+    fn add_overflows(self, other: NumberList) -> bool {
+        some(Test::SumLeaves, self, other)
+    }
+
+    fn sub_overflows(self, other: NumberList) -> bool {
+        some(Test::DifferenceLeaves, self, other)
+    }
+
+    fn mul_overflows(self, other: NumberList) -> bool {
+        some(Test::ProductLeaves, self, other)
+    }
+
+    fn less(self, other: NumberList) -> Truth {
+        Truth {
+            can_be_true: some(Test::Less, self, other),
+            can_be_false: some(Test::NotLess, self, other),
+        }
+    }
+
+    fn equal(self, other: NumberList) -> Truth {
+        Truth {
+            can_be_true: some(Test::Equal, self, other),
+            can_be_false: some(Test::Differ, self, other),
+        }
+    }
+
+    fn join(self, other: NumberList) -> NumberList {
+        if self.everything || other.everything {
+            return all();
+        }
+        union(self.listed(), other.listed())
+    }
+
+    fn widen(self, joined: NumberList) -> NumberList {
+        if lists_none(&self) || lies_within(&joined, &self) {
+            return joined;
+        }
+        all()
+    }
 }
