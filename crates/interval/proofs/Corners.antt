@@ -1,20 +1,14 @@
 -- Results of the ends, for ends that are in order.
 use mathlib.Core.Path.{_≡_, sym, _∙_}
-use mathlib.Core.Bool.{true}
-use native.Mathlib.Omega.{arith}
 use lib.IntN.{ℤ}
-use lib.Signed.{leZ, _≤ℤ_}
+use lib.Signed.{_≤ℤ_}
 use mir.Syntax.{w16}
 use mir.Val.{SFits}
-use Rattle.std.proofs.shelf.Signed.{ints}
 use Rattle.std.proofs.shelf.Tests.{and-from, cond-true}
-use Rattle.std.proofs.shelf.Ways.{tells}
+use Rattle.numbers.proofs.Tests.{le-test}
 use Rattle.numbers.proofs.Widening.{wide, passed, Fit, passed-is}
 use Rattle.interval.specs.Ends.{least-to-greatest, results, from-to}
 use Rattle.interval.specs.declared.ends.Ends.{Ends}
-
-pub le-test : (a b : ℤ) → a ≤ℤ b → leZ a b ≡ true
-le-test a b h = grind (arith, ints, tells)
 
 -- where both sides are in order, the results are those of the ends
 pub results-ordered : (op : ℤ → ℤ → ℤ) (x y : Ends) → x .low ≤ℤ x .high → y .low ≤ℤ y .high → results op x y ≡ least-to-greatest (op (x .low) (y .low)) (op (x .low) (y .high)) (op (x .high) (y .low)) (op (x .high) (y .high))

@@ -37,6 +37,7 @@ placed-standing (x ∷ xs) n h = by (placed-standing xs n) (ltZ x n) refl h
   where
     not-below : (x n : ℤ) → eqZ x n ≡ true → ltZ n x ≡ false
     not-below x n h = grind (arith, ints, tells)
+
     by : (stands-at xs (place xs n) n ≡ true → placed xs n ≡ xs) → (b : Bool) → ltZ x n ≡ b → stands-at (x ∷ xs) (cond b (1 + place xs n) 0) n ≡ true → cond b (x ∷ placed xs n) (cond (ltZ n x) (n ∷ (x ∷ xs)) (x ∷ xs)) ≡ x ∷ xs
     by rest true e h = ap (λ ys. x ∷ ys) (rest (sym (further x xs (place xs n) n) ∙ h))
     by rest false e h = cond-false _ _ _ (not-below x n (and-parts _ _ h .1))
@@ -48,8 +49,10 @@ placed-new (x ∷ xs) n h = by (placed-new xs n) (ltZ x n) refl h
   where
     first : (m : ℕ) (b : Bool) → (ltb 0 (suc m) && b) ≡ false → b ≡ false
     first m b h = grind (arith, tells)
+
     is-below : (x n : ℤ) → ltZ x n ≡ false → eqZ x n ≡ false → ltZ n x ≡ true
     is-below x n h k = grind (arith, ints, tells)
+
     by : (stands-at xs (place xs n) n ≡ false → placed xs n ≡ take (place xs n) xs ++ (n ∷ drop (place xs n) xs)) → (b : Bool) → ltZ x n ≡ b → stands-at (x ∷ xs) (cond b (1 + place xs n) 0) n ≡ false → cond b (x ∷ placed xs n) (cond (ltZ n x) (n ∷ (x ∷ xs)) (x ∷ xs)) ≡ take (cond b (1 + place xs n) 0) (x ∷ xs) ++ (n ∷ drop (cond b (1 + place xs n) 0) (x ∷ xs))
     by rest true e h = subst (λ k. x ∷ placed xs n ≡ take k (x ∷ xs) ++ (n ∷ drop k (x ∷ xs))) (sym (one-add (place xs n))) (ap (λ ys. x ∷ ys) (rest (sym (further x xs (place xs n) n) ∙ h)))
     by rest false e h = cond-true _ _ _ (is-below x n e (first (length xs) (eqZ x n) h))
@@ -111,7 +114,7 @@ put-new xs n h e =
     let long : length (placed xs n) ≡ length xs + 1 = length-new xs n e in
     let room : 8 - length xs ≡ 8 - length (placed xs n) + 1 = omega arith in
     let numbers : shifted-in (xs ++ replicate (8 - length xs) (pos 0)) (place xs n) n ≡ placed xs n ++ replicate (8 - length (placed xs n)) (pos 0) =
-      ap (λ (k : ℕ). shifted-in (xs ++ replicate k (pos 0)) (place xs n) n) room ∙ shifted-packed xs (place xs n) (8 - length (placed xs n)) n (place-le xs n) ∙ ap (λ (zs : List ℤ). zs ++ replicate (8 - length (placed xs n)) (pos 0)) (sym (placed-new xs n e)) in
+    ap (λ (k : ℕ). shifted-in (xs ++ replicate k (pos 0)) (place xs n) n) room ∙ shifted-packed xs (place xs n) (8 - length (placed xs n)) n (place-le xs n) ∙ ap (λ (zs : List ℤ). zs ++ replicate (8 - length (placed xs n)) (pos 0)) (sym (placed-new xs n e)) in
     let same : record-with (length xs + 1) (shifted-in (xs ++ replicate (8 - length xs) (pos 0)) (place xs n) n) ≡ record-of (placed xs n) = ap (λ (k : ℕ). record-with k (shifted-in (xs ++ replicate (8 - length xs) (pos 0)) (place xs n) n)) (sym long) ∙ ap (record-with (length (placed xs n))) numbers in
     put-short xs n (omega arith) ∙ cond-false _ _ _ e ∙ cond-false _ _ _ (ne-eqb (length xs) 8 (omega arith)) ∙ same ∙ sym (packed-short (placed xs n) (omega arith))
 
@@ -122,8 +125,10 @@ put-packed xs n = ⊎-elim short long (cases-lt 8 (length xs))
     by : (b : Bool) → stands-at xs (place xs n) n ≡ b → length xs ≤ 8 → put-in (record-of xs) n ≡ packed (placed xs n)
     by true e h = put-standing xs n h e
     by false e h = ⊎-elim (λ eight. put-ninth xs n eight e) (λ other. put-new xs n (omega arith) e) (cases-eq (length xs) 8)
+
     long : length xs ≤ 8 → put-in (packed xs) n ≡ packed (placed xs n)
     long h = ap (λ x. put-in x n) (packed-short xs h) ∙ by (stands-at xs (place xs n) n) refl h
+
     short : 8 < length xs → put-in (packed xs) n ≡ packed (placed xs n)
     short h = ap (λ x. put-in x n) (packed-long xs h) ∙ sym (packed-long (placed xs n) (omega (arith, length-placed xs n)))
 

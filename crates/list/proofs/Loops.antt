@@ -14,7 +14,6 @@ use Rattle.std.proofs.shelf.Signed.{ints, toZ-ofZ}
 use Rattle.std.proofs.shelf.Tests.{cond-true, cond-false}
 use Rattle.std.proofs.shelf.Ways.{tells}
 use Rattle.std.specs.shelf.Lists.{folded}
-use Rattle.numbers.specs.Arithmetic.{eqZ}
 use Rattle.list.specs.Numbers.{rising, ascending, counted}
 
 -- a number as the code passes it on
@@ -32,15 +31,9 @@ other-bits x n f ne e = ne (ap (ofZ w16) (e ∙ toZ-ofZ w16 n f))
 pub turned : (x y : ℤ) (b : Bool) → SFits w16 x → SFits w16 y → leZ (passed y) (passed x) ≡ b → ltZ x y ≡ not b
 turned x y b f g e = flip x y b (ap (λ z. leZ z x) (sym (toZ-ofZ w16 y g)) ∙ ap (leZ (passed y)) (sym (toZ-ofZ w16 x f)) ∙ e)
   where
-  flip : (x y : ℤ) (b : Bool) → leZ y x ≡ b → ltZ x y ≡ not b
-  flip x y true e = grind (arith, ints, tells)
-  flip x y false e = grind (arith, ints, tells)
-
-pub eqZ-same : (x y : ℤ) → x ≡ y → eqZ x y ≡ true
-eqZ-same x y e = grind (arith, ints, tells)
-
-pub eqZ-other : (x y : ℤ) → (x ≡ y → ⊥) → eqZ x y ≡ false
-eqZ-other x y ne = grind (arith, ints, tells)
+    flip : (x y : ℤ) (b : Bool) → leZ y x ≡ b → ltZ x y ≡ not b
+    flip x y true e = grind (arith, ints, tells)
+    flip x y false e = grind (arith, ints, tells)
 
 -- a test of a list that is the test of its first number, or that of the rest
 pub or-step : (F : List ℤ → Bool) (t : ℤ → Bool) → ((x : ℤ) (xs : List ℤ) → F (x ∷ xs) ≡ (t x || F xs)) → (ns : List ℤ) (i : ℕ) (b : Bool) → i < length ns → t (getD ns i (pos 0)) ≡ b → F (drop i ns) ≡ F ns → (b || F (drop (i + 1) ns)) ≡ F ns
@@ -75,10 +68,10 @@ ascending-step ns i b g l t inv =
 pub ascending-end : (ns : List ℤ) (i : ℕ) → 1 ≤ i → length ns ≤ i → ascending (drop (i - 1) ns) ≡ true
 ascending-end ns i g l = short (drop (i - 1) ns) (omega (arith, length-drop (i - 1) ns))
   where
-  short : (xs : List ℤ) → length xs ≤ 1 → ascending xs ≡ true
-  short [] h = refl
-  short (x ∷ []) h = refl
-  short (x ∷ (y ∷ xs)) h = absurd (omega arith)
+    short : (xs : List ℤ) → length xs ≤ 1 → ascending xs ≡ true
+    short [] h = refl
+    short (x ∷ []) h = refl
+    short (x ∷ (y ∷ xs)) h = absurd (omega arith)
 
 -- no number counts up from above b
 pub counted-none : (k : ℕ) (a b : ℤ) → ltZ b a ≡ true → counted k a b ≡ []
@@ -102,5 +95,6 @@ counted-last k a b nz e = counted-more k a b nz (level a b e) ∙ ap (λ xs. a �
   where
     level : (a b : ℤ) → a ≡ b → ltZ b a ≡ false
     level a b e = grind (arith, ints, tells)
+
     next : (a b : ℤ) → a ≡ b → ltZ b (a +ℤ pos 1) ≡ true
     next a b e = grind (arith, ints, tells)

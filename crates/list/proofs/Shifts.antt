@@ -15,5 +15,5 @@ shift-in xs k p n h l =
     let none : drop (p + 1 + (k - p)) xs ≡ [] = drop-all _ xs (omega arith) in
     let front : take (p + 1) xs ≡ take p xs ++ (getD xs p n ∷ []) = take-more xs p n (omega arith) in
     let whole : paste xs (p + 1) (drop p xs) (k - p) ≡ take p xs ++ (getD xs p n ∷ moved) =
-      ap (λ (d : List ℤ). (take (p + 1) xs ++ moved) ++ d) none ∙ append-nil (take (p + 1) xs ++ moved) ∙ ap (λ (f : List ℤ). f ++ moved) front ∙ append-assoc (take p xs) (getD xs p n ∷ []) moved in
+    ap (λ (d : List ℤ). (take (p + 1) xs ++ moved) ++ d) none ∙ append-nil (take (p + 1) xs ++ moved) ∙ ap (λ (f : List ℤ). f ++ moved) front ∙ append-assoc (take p xs) (getD xs p n ∷ []) moved in
     ap (λ (ys : List ℤ). set ys p n) whole ∙ set-at (take p xs) (getD xs p n) moved n p (length-take-le p xs (omega arith))

@@ -6,8 +6,10 @@ ghost use Rattle.list.specs.Insertion.{put-in};
 ghost use Rattle.list.specs.NumberList.{listed, everything, packed, smallest, is-empty, is-within, results, some, list-ops};
 ghost use Rattle.list.specs.Numbers.{if-any, row, pairs, some-with, some-pair, counted};
 ghost use Rattle.list.specs.Operations.{result, passes};
+
 mod numbers_of;
 mod operations;
+
 use domain::Domain;
 use domain::Truth;
 use numbers::Int;

@@ -44,13 +44,7 @@ impl Operation {
             Operation::Add => fit(a + b),
             Operation::Sub => fit(a - b),
             Operation::Mul => fit(a * b),
-            Operation::Div => {
-                if b == 0 {
-                    None
-                } else {
-                    fit(a / b)
-                }
-            }
+            Operation::Div => { if b == 0 { None } else { fit(a / b) } }
         }
     }
 }

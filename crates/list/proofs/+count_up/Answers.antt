@@ -27,6 +27,7 @@ next-is a b f g h ne = ap (λ z. passed (z +ℤ pos 1)) (toZ-ofZ w16 a f) ∙ to
   where
     strictly : (a b : ℤ) → ltZ b a ≡ false → (a ≡ b → ⊥) → a <ℤ b
     strictly a b h ne = grind (arith, ints, tells)
+
     fit : (a b : ℤ) → SFits w16 a → SFits w16 b → a <ℤ b → SFits w16 (a +ℤ pos 1)
     fit (pos a) (pos b) f g l = record { sfits = omega (arith, ints, g .sfits) }
     fit (pos a) (negsuc b) f g l = absurd (omega (arith, ints))
@@ -39,8 +40,8 @@ returns-then-places-eq0 t c =
     let high : SFits w16 (c .args .high) = search needs in
     let into = folded put-in (c .args .set) in
     elim (c .then-places-eq0 .came) [
-      then-places-eq0·by·then-places-eq0 w ↦ ap (λ k. into (counted k (c .args .low) (c .args .high))) (sym (w .if-places-eq0 .taken))
-    | then-places-eq0·by·else-places-eq0·then-low-high w ↦ ap into (sym (counted-none (c .args .places) (c .args .low) (c .args .high) (read _ _ true low high (w .if-low-high .taken))))
+      | then-places-eq0·by·then-places-eq0 w ↦ ap (λ k. into (counted k (c .args .low) (c .args .high))) (sym (w .if-places-eq0 .taken))
+      | then-places-eq0·by·else-places-eq0·then-low-high w ↦ ap into (sym (counted-none (c .args .places) (c .args .low) (c .args .high) (read _ _ true low high (w .if-low-high .taken))))
     ]
 
 pub returns-then-low-high-2 : need.returns-then-low-high-2

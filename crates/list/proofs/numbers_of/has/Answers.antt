@@ -9,8 +9,9 @@ use mir.Val.{SFits}
 use Rattle.std.proofs.shelf.Lists.{at-drop-all}
 use Rattle.std.proofs.shelf.Signed.{toZ-ofZ}
 use Rattle.numbers.specs.Arithmetic.{eqZ}
+use Rattle.numbers.proofs.Tests.{eqZ-same, eqZ-other}
 use Rattle.list.specs.Numbers.{member}
-use Rattle.list.proofs.Loops.{passed, same-bits, other-bits, eqZ-same, eqZ-other, or-step}
+use Rattle.list.proofs.Loops.{passed, same-bits, other-bits, or-step}
 use Rattle.list.proofs.numbers_of.has.Needs as need
 
 pub returns-then-x-n : need.returns-then-x-n
