@@ -6,7 +6,7 @@ ghost use Rattle.list.specs.Numbers.{member, all-in, ascending};
 use numbers::Int;
 
 // Whether the numbers ascend strictly.
-pub fn ascends(numbers: &[Int]) -> bool
+pub(crate) fn ascends(numbers: &[Int]) -> bool
     ensures { λ r. ⌜ r ≡ ascending (now (numbers .entry)) ⌝ }
 {
     for i in 1..numbers.len() {
@@ -18,7 +18,7 @@ pub fn ascends(numbers: &[Int]) -> bool
 }
 
 // Whether `n` is among the numbers.
-pub fn has(numbers: &[Int], n: Int) -> bool
+pub(crate) fn has(numbers: &[Int], n: Int) -> bool
     ensures { λ r. ⌜ r ≡ member n (now (numbers .entry)) ⌝ }
 {
     for x in numbers {
@@ -30,7 +30,7 @@ pub fn has(numbers: &[Int], n: Int) -> bool
 }
 
 // Whether every number is among the others.
-pub fn has_all(others: &[Int], numbers: &[Int]) -> bool
+pub(crate) fn has_all(others: &[Int], numbers: &[Int]) -> bool
     ensures { λ r. ⌜ r ≡ all-in (now (numbers .entry)) (now (others .entry)) ⌝ }
 {
     for n in numbers {
@@ -42,7 +42,7 @@ pub fn has_all(others: &[Int], numbers: &[Int]) -> bool
 }
 
 // How many numbers stand at the front that are below `n`.
-pub fn place_of(numbers: &[Int], n: Int) -> usize
+pub(crate) fn place_of(numbers: &[Int], n: Int) -> usize
     ensures { λ r. ⌜ r ≡ place (now (numbers .entry)) n ⌝ }
 {
     for (i, x) in numbers.iter().enumerate() {
@@ -54,14 +54,14 @@ pub fn place_of(numbers: &[Int], n: Int) -> usize
 }
 
 // Whether `n` stands at the place `at`.
-pub fn stands_at(numbers: &[Int], at: usize, n: Int) -> bool
+pub(crate) fn stands_at(numbers: &[Int], at: usize, n: Int) -> bool
     ensures { λ r. ⌜ r ≡ stands-at (now (numbers .entry)) at n ⌝ }
 {
     at < numbers.len() && numbers[at] == n
 }
 
 // `n` put in at the place `at`, the numbers behind it one place on, without the last.
-pub fn shifted(numbers: [Int; 8], at: usize, n: Int) -> [Int; 8]
+pub(crate) fn shifted(numbers: [Int; 8], at: usize, n: Int) -> [Int; 8]
     requires { ⌜ at < 8 ⌝ }
     ensures { λ r. ⌜ r ≡ shifted-in numbers at n ⌝ }
 {

@@ -8,7 +8,7 @@ use numbers::fit;
 
 // What is done with two numbers.
 #[derive(Clone, Copy)]
-pub enum Operation {
+pub(crate) enum Operation {
     Add,
     Sub,
     Mul,
@@ -17,7 +17,7 @@ pub enum Operation {
 
 // What is asked of two numbers.
 #[derive(Clone, Copy)]
-pub enum Test {
+pub(crate) enum Test {
     SumLeaves,
     DifferenceLeaves,
     ProductLeaves,
@@ -36,7 +36,7 @@ fn outside(n: i32) -> bool
 
 impl Operation {
     // The result inside INT, if there is one.
-    pub fn result(self, a: Int, b: Int) -> Option<Int>
+    pub(crate) fn result(self, a: Int, b: Int) -> Option<Int>
         ensures { λ r. ⌜ r ≡ result self a b ⌝ }
     {
         let (a, b) = (a as i32, b as i32);
@@ -51,7 +51,7 @@ impl Operation {
 
 impl Test {
     // The answer for two numbers.
-    pub fn passes(self, a: Int, b: Int) -> bool
+    pub(crate) fn passes(self, a: Int, b: Int) -> bool
         ensures { λ r. ⌜ r ≡ passes self a b ⌝ }
     {
         let (x, y) = (a as i32, b as i32);
