@@ -1,86 +1,18 @@
 -- Results of the ends, for ends that are in order.
-use mathlib.Core.Path.{_≡_, refl, sym, ap, _∙_, subst}
-use mathlib.Core.Bool.{Bool, true, false, cond, _&&_}
-use Prim.Native.Nat.{ℕ, zero, suc, _/_, _^_, _<_, _≤_}
-use native.Mathlib.Nat.{div-le-self}
-use native.Mathlib.Omega.{arith}
-use borrow.Author.Needs.{needs}
-use borrow.Author.Numbers.{signed-product}
-use lib.IntN.{ℤ, pos, negsuc, natAbs, negℤ, _+ℤ_, _-ℤ_, _*ℤ_}
-use lib.Signed.{leZ, _≤ℤ_, quotZ}
-use mir.Syntax.{w16, w32}
-use mir.Val.{SFits, toZ, ofZ}
-use Rattle.std.proofs.shelf.Signed.{ints, toZ-ofZ}
+use mathlib.Core.Path.{_≡_, sym, _∙_}
+use lib.IntN.{ℤ}
+use lib.Signed.{_≤ℤ_}
+use mir.Syntax.{w16}
+use mir.Val.{SFits}
 use Rattle.std.proofs.shelf.Tests.{and-from, cond-true}
-use Rattle.std.proofs.shelf.Ways.{tells}
-use Rattle.interval.specs.Ends.{ordered, least-to-greatest, results, from-to}
+use Rattle.numbers.proofs.Tests.{le-test}
+use Rattle.numbers.proofs.Widening.{wide, passed, Fit, passed-is}
+use Rattle.interval.specs.Ends.{least-to-greatest, results, from-to}
 use Rattle.interval.specs.declared.ends.Ends.{Ends}
-
-pub le-test : (a b : ℤ) → a ≤ℤ b → leZ a b ≡ true
-le-test a b h = grind (arith, ints, tells)
 
 -- where both sides are in order, the results are those of the ends
 pub results-ordered : (op : ℤ → ℤ → ℤ) (x y : Ends) → x .low ≤ℤ x .high → y .low ≤ℤ y .high → results op x y ≡ least-to-greatest (op (x .low) (y .low)) (op (x .low) (y .high)) (op (x .high) (y .low)) (op (x .high) (y .high))
 results-ordered op x y h k = cond-true _ _ _ (and-from _ _ (le-test _ _ h) (le-test _ _ k))
-
--- an INT as the code reads it for a wider sum, and a wider number as the code passes it
-abbrev pub wide : ℤ → ℤ
-wide x = toZ w32 (ofZ w32 (toZ w16 (ofZ w16 x)))
-
-abbrev pub passed : ℤ → ℤ
-passed z = toZ w32 (ofZ w32 z)
-
-wide-is : (x : ℤ) → SFits w16 x → wide x ≡ x
-wide-is x f = omega (arith, ints)
-
--- two INTs have a result that the wider type holds
-abbrev Fit : (ℤ → ℤ → ℤ) → Type 0
-Fit op = (x y : ℤ) → SFits w16 x → SFits w16 y → SFits w32 (op (wide x) (wide y))
-
-pub sums-fit : Fit _+ℤ_
-sums-fit x y f g = search needs
-
-pub differences-fit : Fit _-ℤ_
-differences-fit x y f g = search needs
-
-pub products-fit : Fit _*ℤ_
-products-fit x y f g = signed-product w32 w16 w16 x y f g tt
-
-fits-abs : (z : ℤ) → natAbs z ≤ 2 ^ 15 → SFits w32 z
-fits-abs (pos n) h = record { sfits = omega arith }
-fits-abs (negsuc n) h = record { sfits = omega arith }
-
-abs-neg : (n : ℕ) → natAbs (negℤ (pos n)) ≡ n
-abs-neg zero = refl
-abs-neg (suc n) = refl
-
--- a quotient is no larger than the dividend
-abs-quot : (x y : ℤ) → natAbs (quotZ x y) ≤ natAbs x
-abs-quot (pos a) (pos b) = div-le-self a b
-abs-quot (pos a) (negsuc b) = omega (arith, abs-neg (a / suc b), div-le-self a (suc b))
-abs-quot (negsuc a) (pos b) = omega (arith, abs-neg (suc a / b), div-le-self (suc a) b)
-abs-quot (negsuc a) (negsuc b) = div-le-self (suc a) (suc b)
-
-abs-int : (x : ℤ) → SFits w16 x → natAbs x ≤ 2 ^ 15
-abs-int (pos n) f = omega (arith, f .sfits)
-abs-int (negsuc n) f = omega (arith, f .sfits)
-
-pub quotients-fit : Fit quotZ
-quotients-fit x y f g =
-    let small : natAbs (quotZ x y) ≤ 2 ^ 15 = omega (arith, abs-quot x y, abs-int x f) in
-    subst (λ z. SFits w32 (quotZ z (wide y))) (sym (wide-is x f)) (subst (λ z. SFits w32 (quotZ x z)) (sym (wide-is y g)) (fits-abs _ small))
-
--- a divisor is not 0, as the code asks it
-pub nonzero : (x : ℤ) → SFits w16 x → (x ≡ pos 0 → ⊥) → 0 < ofZ w32 (toZ w16 (ofZ w16 x))
-nonzero x f h = subst (λ z. 0 < ofZ w32 z) (sym (toZ-ofZ w16 x f)) (bits x f h)
-  where
-    bits : (x : ℤ) → SFits w16 x → (x ≡ pos 0 → ⊥) → 0 < ofZ w32 x
-    bits (pos zero) f h = absurd (h refl)
-    bits (pos (suc n)) f h = omega arith
-    bits (negsuc n) f h = omega (arith, f .sfits)
-
-passed-is : (op : ℤ → ℤ → ℤ) → Fit op → (x y : ℤ) → SFits w16 x → SFits w16 y → passed (op (wide x) (wide y)) ≡ op x y
-passed-is op fit x y f g = toZ-ofZ w32 _ (fit x y f g) ∙ ap (λ z. op z (wide y)) (wide-is x f) ∙ ap (op x) (wide-is y g)
 
 -- the results of ends in order, as the code passes them on, spread over the results
 pub spread-is : (op : ℤ → ℤ → ℤ) → Fit op → (a b c d : ℤ) {e : Ends} → SFits w16 a → SFits w16 b → SFits w16 c → SFits w16 d → a ≤ℤ b → c ≤ℤ d → e ≡ least-to-greatest (passed (op (wide a) (wide c))) (passed (op (wide a) (wide d))) (passed (op (wide b) (wide c))) (passed (op (wide b) (wide d))) → e ≡ results op (from-to a b) (from-to c d)

@@ -10,6 +10,7 @@ use Rattle.std.proofs.shelf.Ways.{tells}
 use Rattle.numbers.specs.Arithmetic.{eqZ}
 use Rattle.numbers.specs.Int.{isInt, lowest, highest}
 use Rattle.domain.specs.Domain.{Lawful, holds, allows, Holds-results, Asks-overflow, Flags-truth}
+use Rattle.numbers.proofs.Tests.{below-test, int-between}
 use Rattle.interval.specs.Ends.{from-to, among, inside, hull, results, quotients, leaves}
 use Rattle.interval.specs.Interval.{ends, interval, fitted, interval-ops}
 use Rattle.interval.specs.declared.ends.Ends.{Ends}
@@ -38,13 +39,10 @@ less-allows x y a b h k = grind (arith, ints, tells)
 equal-allows : (x y : Interval) (a b : ℤ) → among (ends x) a ≡ true → among (ends y) b ≡ true → allows (interval-ops .equal x y) (eqZ a b) ≡ true
 equal-allows x y a b h k = grind (arith, ints, tells)
 
-int-between : (a b n : ℤ) → isInt a ≡ true → isInt b ≡ true → a ≤ℤ n → n ≤ℤ b → isInt n ≡ true
-int-between a b n i j h k = grind (arith, ints, tells)
-
 pub lawful : Lawful interval-ops
 lawful = record {
   span-holds = λ a b n i j h k. and-from _ _ (int-between a b n i j h k) (order.span-among a b n h k);
-  span-holds-none = λ a b n i j h. and-right _ _ (order.among-none (from-to a b) n (order.above a b h));
+  span-holds-none = λ a b n i j h. and-right _ _ (order.among-none (from-to a b) n (below-test b a h));
   within-holds = λ s t n w h. and-from _ _ (and-parts _ _ h .0) (order.inside-among (ends s) (ends t) n w (held s n h));
   empty-holds = λ s n e. and-right _ _ (order.among-none (ends s) n e);
   add-holds = results-hold _+ℤ_ sums-edged;
@@ -56,8 +54,8 @@ lawful = record {
   mul-asks = results-ask _*ℤ_ products-edged;
   less-flags = λ s t a b h k. less-allows s t a b (held s a h) (held t b k);
   equal-flags = λ s t a b h k. equal-allows s t a b (held s a h) (held t b k);
-  empty-span = λ a b i j h. order.above a b h;
-  empty-span-within = λ a b s i j h. order.inside-none (from-to a b) (ends s) (order.above a b h);
+  empty-span = λ a b i j h. below-test b a h;
+  empty-span-within = λ a b s i j h. order.inside-none (from-to a b) (ends s) (below-test b a h);
   within-refl = λ s. order.inside-refl (ends s);
   within-trans = λ s t u. order.inside-trans (ends s) (ends t) (ends u);
   join-left = λ s t. order.hull-left (ends s) (ends t);

@@ -17,9 +17,6 @@ span-among a b n h k = grind (arith, ints, tells)
 pub among-none : (x : Ends) (n : ℤ) → ltZ (x .high) (x .low) ≡ true → among x n ≡ false
 among-none x n h = grind (arith, ints, tells)
 
-pub above : (a b : ℤ) → b <ℤ a → ltZ b a ≡ true
-above a b h = grind (arith, ints, tells)
-
 pub among-ordered : (x : Ends) (n : ℤ) → among x n ≡ true → x .low ≤ℤ x .high
 among-ordered x n h = grind (arith, ints, tells)
 

@@ -8,20 +8,20 @@ use numbers::Int;
 
 // The whole numbers from `low` to `high`.
 #[derive(Clone, Copy)]
-pub struct Ends {
+pub(crate) struct Ends {
     pub low: i32,
     pub high: i32,
 }
 
 // No number.
-pub fn nothing() -> Ends
+pub(crate) fn nothing() -> Ends
     ensures { λ r. ⌜ r ≡ none ⌝ }
 {
     Ends { low: 1, high: 0 }
 }
 
 // From the least to the greatest of four results.
-pub fn spread(p: i32, q: i32, r: i32, s: i32) -> Ends
+pub(crate) fn spread(p: i32, q: i32, r: i32, s: i32) -> Ends
     ensures { λ e. ⌜ e ≡ least-to-greatest p q r s ⌝ }
 {
     Ends {
@@ -31,7 +31,7 @@ pub fn spread(p: i32, q: i32, r: i32, s: i32) -> Ends
 }
 
 // The smallest ends over both.
-pub fn join(x: Ends, y: Ends) -> Ends
+pub(crate) fn join(x: Ends, y: Ends) -> Ends
     ensures { λ r. ⌜ r ≡ hull x y ⌝ }
 {
     if x.low > x.high {
@@ -47,7 +47,7 @@ pub fn join(x: Ends, y: Ends) -> Ends
 }
 
 // What of it lies inside INT.
-pub fn cut(x: Ends) -> Interval
+pub(crate) fn cut(x: Ends) -> Interval
     ensures { λ r. ⌜ r ≡ fitted x ⌝ }
 {
     let low = x.low.max(Int::MIN as i32);
@@ -63,7 +63,7 @@ pub fn cut(x: Ends) -> Interval
 }
 
 // Whether some of it lies outside INT.
-pub fn overflows(x: Ends) -> bool
+pub(crate) fn overflows(x: Ends) -> bool
     ensures { λ r. ⌜ r ≡ leaves lowest highest x ⌝ }
 {
     x.low <= x.high && (x.low < Int::MIN as i32 || x.high > Int::MAX as i32)

@@ -15,7 +15,7 @@ use numbers::Int;
 
 impl Range {
     // The interval with its ends in order, if they are.
-    pub fn check(x: Interval) -> Option<Range>
+    pub(crate) fn check(x: Interval) -> Option<Range>
         ensures { λ r. ⌜ Checked (ends x) r ⌝ }
     {
         if x.low <= x.high {
@@ -29,7 +29,7 @@ impl Range {
     }
 
     // From the least to the greatest sum.
-    pub fn add(self, other: Range) -> Ends
+    pub(crate) fn add(self, other: Range) -> Ends
         ensures { λ r. ⌜ r ≡ results _+ℤ_ (ends-of self) (ends-of other) ⌝ }
     {
         let (a, b) = (self.low as i32, self.high as i32);
@@ -38,7 +38,7 @@ impl Range {
     }
 
     // From the least to the greatest difference.
-    pub fn sub(self, other: Range) -> Ends
+    pub(crate) fn sub(self, other: Range) -> Ends
         ensures { λ r. ⌜ r ≡ results _-ℤ_ (ends-of self) (ends-of other) ⌝ }
     {
         let (a, b) = (self.low as i32, self.high as i32);
@@ -47,7 +47,7 @@ impl Range {
     }
 
     // From the least to the greatest product.
-    pub fn mul(self, other: Range) -> Ends
+    pub(crate) fn mul(self, other: Range) -> Ends
         ensures { λ r. ⌜ r ≡ results _*ℤ_ (ends-of self) (ends-of other) ⌝ }
     {
         let (a, b) = (self.low as i32, self.high as i32);
@@ -77,7 +77,7 @@ impl Range {
     }
 
     // The quotients for the negative and for the positive part of the divisor, and all that lies between.
-    pub fn div(self, other: Range) -> Ends
+    pub(crate) fn div(self, other: Range) -> Ends
         ensures { λ r. ⌜ r ≡ quotients (ends-of self) (ends-of other) ⌝ }
     {
         let below = self.part(other.low, other.high.min(-1));

@@ -2,7 +2,8 @@ use borrow.Author.Needs.{needs}
 use lib.IntN.{_+ℤ_}
 use mir.Syntax.{w16}
 use mir.Val.{SFits}
-use Rattle.interval.proofs.Corners.{spread-is, sums-fit}
+use Rattle.numbers.proofs.Widening.{sums-fit}
+use Rattle.interval.proofs.Corners.{spread-is}
 use Rattle.interval.proofs.range.Range.add.Needs as need
 
 pub returns : need.returns

@@ -2,7 +2,8 @@ use borrow.Author.Needs.{needs}
 use lib.Signed.{quotZ}
 use mir.Syntax.{w16}
 use mir.Val.{SFits}
-use Rattle.interval.proofs.Corners.{spread-is, quotients-fit, nonzero}
+use Rattle.numbers.proofs.Widening.{quotients-fit, nonzero}
+use Rattle.interval.proofs.Corners.{spread-is}
 use Rattle.interval.proofs.range.Range.quotients.Needs as need
 
 pub div-a : need.div-a

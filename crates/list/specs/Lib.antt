@@ -1,0 +1,4 @@
+pub mod Insertion
+pub mod NumberList
+pub mod Numbers
+pub mod Operations
