@@ -1,5 +1,5 @@
 -- What each statement does to values, and when it stops: the one meaning that running, carrying and marking share.
-use mathlib.Core.Bool.{Bool as Truth, true, false, not, xor, cond, _&&_, _||_}
+use mathlib.Core.Bool.{Bool as Truth, true, false, not, cond, _&&_, _||_}
 use mathlib.Core.List.{List}
 use Prim.Native.Nat.{ℕ}
 use lib.IntN.{ℤ, pos, _+ℤ_, _-ℤ_, _*ℤ_}
@@ -90,8 +90,8 @@ combined And a b = a && b
 combined Andn a b = a && not b
 combined Or a b = a || b
 combined Orn a b = a || not b
-combined Xor a b = xor a b
-combined Xorn a b = xor a (not b)
+combined Xor a b = (a && not b) || (not a && b)
+combined Xorn a b = (a && b) || (not a && not b)
 combined Add a b = false
 combined Sub a b = false
 combined Mul a b = false

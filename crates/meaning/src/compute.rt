@@ -1,6 +1,6 @@
 // The value that an operator gives, or why it stops.
 ghost use mathlib.Core.Path.{_≡_};
-ghost use Rattle.meaning.specs.Meaning.{truthOf, numberOf, opposite, sized, arithmetic, compared, computed};
+ghost use Rattle.meaning.specs.Meaning.{truthOf, numberOf, opposite, sized, quotient, arithmetic, compared, computed};
 use crate::truths::combine;
 use cells::value::Value;
 use numbers::Int;
@@ -55,22 +55,26 @@ fn size(result: i32) -> Result<Value, Cause>
     }
 }
 
+// A quotient, without its fraction.
+fn divide(a: Int, b: Int) -> Result<Value, Cause>
+    ensures { λ r. ⌜ r ≡ quotient a b ⌝ }
+{
+    if b == 0 {
+        Err(Cause::ZeroDivisor)
+    } else {
+        size(a as i32 / b as i32)
+    }
+}
+
 // A sum, difference, product or quotient.
 fn calculate(operator: Operator, a: Int, b: Int) -> Result<Value, Cause>
     ensures { λ r. ⌜ r ≡ arithmetic operator a b ⌝ }
 {
-    let (left, right) = (a as i32, b as i32);
     match operator {
-        Operator::Add => size(left + right),
-        Operator::Sub => size(left - right),
-        Operator::Mul => size(left * right),
-        _ => {
-            if right == 0 {
-                Err(Cause::ZeroDivisor)
-            } else {
-                size(left / right)
-            }
-        }
+        Operator::Add => size(a as i32 + b as i32),
+        Operator::Sub => size(a as i32 - b as i32),
+        Operator::Mul => size(a as i32 * b as i32),
+        _ => divide(a, b),
     }
 }
 

@@ -12,8 +12,8 @@ pub fn combine(operator: Operator, left: bool, right: bool) -> bool
         Operator::Andn => left & !right,
         Operator::Or => left | right,
         Operator::Orn => left | !right,
-        Operator::Xor => left ^ right,
-        Operator::Xorn => left ^ !right,
+        Operator::Xor => (left & !right) | (!left & right),
+        Operator::Xorn => (left & right) | (!left & !right),
         _ => false,
     }
 }
