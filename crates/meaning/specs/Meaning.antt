@@ -26,6 +26,8 @@ use Rattle.cells.specs.declared.value.Value.the-variants.{Unset, Bool, Int}
 use Rattle.cells.specs.declared.value.Sort.{Sort}
 use Rattle.cells.specs.declared.value.Sort.the-variants as sort
 use Rattle.cells.specs.Values.{sortOf, valueOf}
+use Rattle.meaning.specs.declared.edge.Edge.{Edge}
+use Rattle.meaning.specs.declared.edge.Edge.the-variants as way
 use Rattle.meaning.specs.declared.compute.Cause.{Cause}
 use Rattle.meaning.specs.declared.compute.Cause.the-variants.{Kind, ZeroDivisor, Overflow}
 
@@ -193,11 +195,6 @@ pub record State : Type 0 where
   pub cr : Value
   pub values : List Value
 
--- the way on from a statement: to the next one, or to the target of a jump or a return
-pub data Edge : Type 0 where
-  fall : Edge
-  jump : Edge
-
 -- a value of the kind that a variable is declared with
 abbrev pub kindValue : List Variable → ℕ → Value
 kindValue vars i = valueOf (getD vars i noVariable .declaration .initial)
@@ -236,17 +233,17 @@ jumps Jmpc cr = truthOf cr
 jumps Jmpcn cr = not (truthOf cr)
 
 abbrev pub withResult : State → Result Value Cause → Result (Edge × State) Cause
-withResult s (Ok v) = Ok (fall, record { cr = v; values = s .values })
+withResult s (Ok v) = Ok (way.Fall, record { cr = v; values = s .values })
 withResult s (Err cause) = Err cause
 
 -- an operation on values that it accepts
 abbrev pub performed : Operation → Value → State → Result (Edge × State) Cause
-performed operation.Return x s = Ok (jump, record { cr = Unset; values = s .values })
-performed operation.Not x s = Ok (fall, record { cr = opposite (s .cr); values = s .values })
-performed (operation.Label name) x s = Ok (fall, s)
+performed operation.Return x s = Ok (way.Jump, record { cr = Unset; values = s .values })
+performed operation.Not x s = Ok (way.Fall, record { cr = opposite (s .cr); values = s .values })
+performed (operation.Label name) x s = Ok (way.Fall, s)
 performed (operation.Apply o y) x s = withResult s (computed o (s .cr) x)
-performed (operation.Store t i) x s = Ok (fall, record { cr = s .cr; values = stored t i s })
-performed (operation.Jump j t) x s = Ok (cond (jumps j (s .cr)) jump fall, s)
+performed (operation.Store t i) x s = Ok (way.Fall, record { cr = s .cr; values = stored t i s })
+performed (operation.Jump j t) x s = Ok (cond (jumps j (s .cr)) way.Jump way.Fall, s)
 
 -- one statement: the new state and the way on, or why it stops; a wrong kind comes first
 abbrev pub perform : List Variable → Operation → State → Result (Edge × State) Cause

@@ -1,0 +1,3 @@
+pub mod Rows
+pub mod Transfer
+pub mod Marks

@@ -1,0 +1,2 @@
+// Carrying a row of cells along a statement, and the marks of a row.
+pub mod marks;
