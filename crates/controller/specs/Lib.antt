@@ -1,0 +1,5 @@
+pub mod Tallies
+pub mod Faults
+pub mod Registers
+pub mod Lists
+pub mod Machine
