@@ -1,0 +1,2 @@
+pub mod Vacant
+pub mod Changes
