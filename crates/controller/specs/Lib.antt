@@ -3,3 +3,5 @@ pub mod Faults
 pub mod Registers
 pub mod Lists
 pub mod Machine
+pub mod Laws
+pub mod Runs

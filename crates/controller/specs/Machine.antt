@@ -146,31 +146,31 @@ readReply p n m = cond (eqb n (outputCount (p .variables))) (done m) (refused (W
 
 -- a call, with what its references hold
 pub data Request : Type 0 where
-  start : List ℤ → Request
-  step : Sight → Request
-  restart : Request
-  read : ℕ → Request
+  toStart : List ℤ → Request
+  toStep : Sight → Request
+  toRestart : Request
+  toRead : ℕ → Request
 
 abbrev pub requestOf : Call → ℕ → Request
-requestOf (call.Start xs) n = start (now xs)
-requestOf (call.Step sight) n = step sight
-requestOf call.Restart n = restart
-requestOf call.Read n = read n
+requestOf (call.Start xs) n = toStart (now xs)
+requestOf (call.Step sight) n = toStep sight
+requestOf call.Restart n = toRestart
+requestOf call.Read n = toRead n
 
 -- any call, by the phase that it finds
 abbrev pub replyIn : Code → Phase → Request → Machine → Reply
-replyIn p Waiting (start xs) m = startReply p xs m
-replyIn p Running (start xs) m = refused (NotWaiting (m .at)) m
-replyIn p (Stopped c) (start xs) m = refused (NotWaiting (m .at)) m
-replyIn p Waiting (step sight) m = refused (ifSized (sight .size) (tableSize p) (NotRunning (m .at))) m
-replyIn p Running (step sight) m = stepReply p sight m
-replyIn p (Stopped c) (step sight) m = refused (ifSized (sight .size) (tableSize p) (NotRunning (m .at))) m
-replyIn p Waiting restart m = done (fresh p (m .counts))
-replyIn p Running restart m = done (fresh p (m .counts))
-replyIn p (Stopped c) restart m = done (fresh p (m .counts))
-replyIn p Waiting (read n) m = readReply p n m
-replyIn p Running (read n) m = refused (ifSized n (outputCount (p .variables)) (NotWaiting (m .at))) m
-replyIn p (Stopped c) (read n) m = refused (ifSized n (outputCount (p .variables)) (NotWaiting (m .at))) m
+replyIn p Waiting (toStart xs) m = startReply p xs m
+replyIn p Running (toStart xs) m = refused (NotWaiting (m .at)) m
+replyIn p (Stopped c) (toStart xs) m = refused (NotWaiting (m .at)) m
+replyIn p Waiting (toStep sight) m = refused (ifSized (sight .size) (tableSize p) (NotRunning (m .at))) m
+replyIn p Running (toStep sight) m = stepReply p sight m
+replyIn p (Stopped c) (toStep sight) m = refused (ifSized (sight .size) (tableSize p) (NotRunning (m .at))) m
+replyIn p Waiting toRestart m = done (fresh p (m .counts))
+replyIn p Running toRestart m = done (fresh p (m .counts))
+replyIn p (Stopped c) toRestart m = done (fresh p (m .counts))
+replyIn p Waiting (toRead n) m = readReply p n m
+replyIn p Running (toRead n) m = refused (ifSized n (outputCount (p .variables)) (NotWaiting (m .at))) m
+replyIn p (Stopped c) (toRead n) m = refused (ifSized n (outputCount (p .variables)) (NotWaiting (m .at))) m
 
 abbrev pub reply : Code → Request → Machine → Reply
 reply p q m = replyIn p (m .phase) q m
@@ -180,12 +180,12 @@ abbrev pub readOut : Code → Machine → List ℤ → List ℤ
 readOut p m out = cond (eqb (length out) (outputCount (p .variables))) (shown (p .variables) (m .memory .values)) out
 
 abbrev pub outputIn : Code → Phase → Request → Machine → List ℤ → List ℤ
-outputIn p f (start xs) m out = out
-outputIn p f (step sight) m out = out
-outputIn p f restart m out = out
-outputIn p Waiting (read n) m out = readOut p m out
-outputIn p Running (read n) m out = out
-outputIn p (Stopped c) (read n) m out = out
+outputIn p f (toStart xs) m out = out
+outputIn p f (toStep sight) m out = out
+outputIn p f toRestart m out = out
+outputIn p Waiting (toRead n) m out = readOut p m out
+outputIn p Running (toRead n) m out = out
+outputIn p (Stopped c) (toRead n) m out = out
 
 abbrev pub output : Code → Request → Machine → List ℤ → List ℤ
 output p q m out = outputIn p (m .phase) q m out

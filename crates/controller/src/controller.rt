@@ -11,6 +11,8 @@ use syntax::record::Variable;
 
 pub mod calls;
 pub mod making;
+pub mod public;
+pub mod sight;
 pub mod stepping;
 
 #[derive(Drop)]

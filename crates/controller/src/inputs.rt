@@ -40,7 +40,7 @@ pub(crate) fn count_inputs(variables: &[Variable]) -> usize
 }
 
 // The number at a position, 0 past the last.
-pub(crate) fn number_at(numbers: &[i32], position: usize) -> i32
+fn number_at(numbers: &[i32], position: usize) -> i32
     ensures { λ r. ⌜ r ≡ getD (now (numbers .entry)) position (pos 0) ⌝ }
 {
     if position < numbers.len() {
@@ -57,8 +57,8 @@ fn between(low: Int, high: Int, number: i32) -> bool
 }
 
 // Whether an input takes a number: a BOOL 0 and 1, an INT those of its range.
-fn takes(variable: Variable, number: i32) -> bool
-    ensures { λ r. ⌜ r ≡ takesNumber (variable .declaration .initial) variable number ⌝ }
+fn takes(variable: &Variable, number: i32) -> bool
+    ensures { λ r. ⌜ r ≡ takesNumber (now (variable .entry) .declaration .initial) (now (variable .entry)) number ⌝ }
 {
     match variable.declaration().initial {
         Constant::Bool(_) => between(0, 1, number),
@@ -66,11 +66,11 @@ fn takes(variable: Variable, number: i32) -> bool
     }
 }
 
-// Whether a variable is an input that does not take a number.
-fn refuses(variable: Variable, number: i32) -> bool
-    ensures { λ r. ⌜ r ≡ refusesNumber variable number ⌝ }
+// Whether a variable is an input that does not take the number at a position.
+fn refuses(variable: &Variable, numbers: &[i32], position: usize) -> bool
+    ensures { λ r. ⌜ r ≡ refusesNumber (now (variable .entry)) (getD (now (numbers .entry)) position (pos 0)) ⌝ }
 {
-    is_input(variable.declaration().class) & !takes(variable, number)
+    is_input(variable.declaration().class) & !takes(variable, number_at(numbers, position))
 }
 
 // The position of the first number that its input does not take.
@@ -79,7 +79,7 @@ pub(crate) fn first_bad(variables: &[Variable], numbers: &[i32]) -> Option<usize
 {
     let mut position = 0;
     for i in 0..variables.len() {
-        if refuses(variables[i], number_at(numbers, position)) {
+        if refuses(&variables[i], numbers, position) {
             return Some(position);
         }
         position += one(is_input(variables[i].declaration().class));
@@ -100,12 +100,12 @@ fn value_for(initial: Constant, number: i32) -> Value
     }
 }
 
-// The value of a variable when a scan starts with a number: an input's is that of the number, the others keep theirs.
-pub(crate) fn enter(variable: Variable, number: i32, value: Value) -> Value
-    ensures { λ r. ⌜ r ≡ entered variable number value ⌝ }
+// The value of a variable when a scan starts with the number at a position: an input's is that of the number, the others keep theirs.
+pub(crate) fn enter(variable: &Variable, numbers: &[i32], position: usize, value: Value) -> Value
+    ensures { λ r. ⌜ r ≡ entered (now (variable .entry)) (getD (now (numbers .entry)) position (pos 0)) value ⌝ }
 {
     if is_input(variable.declaration().class) {
-        value_for(variable.declaration().initial, number)
+        value_for(variable.declaration().initial, number_at(numbers, position))
     } else {
         value
     }

@@ -35,13 +35,7 @@ pub(crate) fn show(value: Value) -> i32
 {
     match value {
         Value::Unset => 0,
-        Value::Bool(b) => {
-            if b {
-                1
-            } else {
-                0
-            }
-        }
+        Value::Bool(b) => { if b { 1 } else { 0 } }
         Value::Int(n) => n as i32,
     }
 }

@@ -3,6 +3,7 @@ use crate::slot::Slot;
 use cells::value::Value;
 
 pub mod access;
+pub mod cover;
 pub mod lists;
 pub mod perform;
 

@@ -89,7 +89,7 @@ impl Controller<'_> {
     }
 
     // Any call; a reading writes `out`.
-    fn dispatch(&mut self, call: Call, out: &mut [i32]) -> Result<(), CallFault>
+    pub(crate) fn dispatch(&mut self, call: Call, out: &mut [i32]) -> Result<(), CallFault>
         ensures reply { λ r. ⌜ Replied (reply (codeOf (now (self .entry))) (requestOf (call .entry) (length (now (out .entry)))) (machine (now (self .entry)))) (now (self .entry)) (now (self .exit)) r ⌝ }
         ensures output { λ _. ⌜ now (out .exit) ≡ output (codeOf (now (self .entry))) (requestOf (call .entry) (length (now (out .entry)))) (machine (now (self .entry))) (now (out .entry)) ⌝ }
     {
@@ -97,9 +97,17 @@ impl Controller<'_> {
             (Phase::Waiting, Call::Start(numbers)) => self.begin(numbers),
             (_, Call::Start(_)) => Err(CallFault::NotWaiting(self.at)),
             (Phase::Running, Call::Step(sight)) => self.go_on(sight),
-            (_, Call::Step(sight)) => Err(if_sized(sight.size, self.table_size(), CallFault::NotRunning(self.at))),
+            (_, Call::Step(sight)) => Err(if_sized(
+                sight.size,
+                self.table_size(),
+                CallFault::NotRunning(self.at),
+            )),
             (Phase::Waiting, Call::Read) => self.show(out),
-            (_, Call::Read) => Err(if_sized(out.len(), count_outputs(self.variables), CallFault::NotWaiting(self.at))),
+            (_, Call::Read) => Err(if_sized(
+                out.len(),
+                count_outputs(self.variables),
+                CallFault::NotWaiting(self.at),
+            )),
             (_, Call::Restart) => {
                 self.renew();
                 Ok(())

@@ -9,7 +9,6 @@ ghost use Rattle.controller.specs.Lists.{isOutput, one as oneFor, outputCount,
 use super::Registers;
 use crate::inputs::enter;
 use crate::inputs::is_input;
-use crate::inputs::number_at;
 use crate::inputs::one;
 use crate::outputs::is_output;
 use crate::outputs::show;
@@ -34,7 +33,7 @@ fn write_inputs(slots: &mut [Slot], variables: &[Variable], numbers: &[i32])
 {
     let mut position = 0;
     for i in 0..variables.len() {
-        let value = enter(variables[i], number_at(numbers, position), slots[i].value());
+        let value = enter(&variables[i], numbers, position, slots[i].value());
         slots[i].store(value);
         position += one(is_input(variables[i].declaration().class));
     }

@@ -144,7 +144,11 @@ impl Registers {
     }
 
     // One statement: the way on from it, or why it stops; then nothing changes.
-    pub(crate) fn perform(&mut self, variables: &[Variable], operation: Operation) -> Result<Edge, Cause>
+    pub(crate) fn perform(
+        &mut self,
+        variables: &[Variable],
+        operation: Operation,
+    ) -> Result<Edge, Cause>
         ensures { λ r. ⌜ Performed (meant (now (variables .entry)) operation (held (now (self .entry)))) (held (now (self .entry))) (held (now (self .exit))) r ⌝ }
     {
         let operand = self.operand(variables, operation);

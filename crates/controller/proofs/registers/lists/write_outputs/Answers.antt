@@ -28,8 +28,7 @@ loop-i-again c =
     let f = ap one e in
     let room : c .loop-i .place + one b ≤ length (c .loop-i .out) = omega (arith, c .loop-i .inv .1) in
     let old = c .value .ensures ∙ sym (read-within slots i _ k) in
-    let len = shown-length (c .loop-i .out) (c .loop-i .place) b (c .value .result) (c .write-output-place .last .out) (c .write-output-place .ensures .out) in
-    (
+    let len = shown-length (c .loop-i .out) (c .loop-i .place) b (c .value .result) (c .write-output-place .last .out) (c .write-output-place .ensures .out) in (
       shown-turn vs (valuesIn slots) i (c .loop-i-test .taken) (values-length slots i k) (c .loop-i .out) (c .loop-i .place) b e room (c .write-output-place .last .out) (c .write-output-place .result) (c .value .result) old (c .write-output-place .ensures .next) (c .write-output-place .ensures .out) ∙ c .loop-i .inv .0,
       omega (arith, c .loop-i .inv .1, c .write-output-place .ensures .next),
     )
