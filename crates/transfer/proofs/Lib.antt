@@ -1,2 +1,4 @@
 pub mod Covering
 pub mod Operators
+pub mod Simulation
+pub mod Simulates

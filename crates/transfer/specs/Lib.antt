@@ -1,3 +1,4 @@
 pub mod Rows
 pub mod Transfer
 pub mod Marks
+pub mod Soundness
