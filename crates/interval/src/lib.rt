@@ -91,7 +91,7 @@ pub impl Domain for Interval as IntervalDomain {
     }
 
     fn is_empty(self) -> bool {
-        self.high < self.low
+        self.low > self.high
     }
 
     fn add(self, other: Interval) -> Interval {
