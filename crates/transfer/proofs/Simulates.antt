@@ -109,3 +109,72 @@ module _ {S : Type 0} (o : Ops S) (law : Lawful o) where
     by (Int n) c e q = clash false (let z : _≡_ {A = ℕ} 0 1 = (let y = c .1 in cc) in absurd (omega arith)) refl
     by (Bool true) c e q = (withResult o row (onlyTruth o true l), refl, with-result vars ss (operation.Jump Jmpcn t) row s b (onlyTruth o true l) (s .cr) (ap (covers o (onlyTruth o true l)) q ∙ only-covers l true e))
     by (Bool false) c e q = (withResult o row (onlyTruth o false l), refl, with-result vars ss (operation.Jump Jmpcn t) row s b (onlyTruth o false l) (s .cr) (ap (covers o (onlyTruth o false l)) q ∙ only-covers l false e))
+
+  follow-store : (vars : List Variable) (ss : List Statement) (st : Store) (i : ℕ) (row : List (Cell S)) (s : State) (b : Before o vars ss (operation.Store st i) row s) (l r : Cell S) → covers o l (s .cr) ≡ true → covers o r (operand vars (s .values) (operation.Store st i)) ≡ true → acceptsStore st (sortOf (s .cr)) (sortOf (operand vars (s .values) (operation.Store st i))) ≡ true → Follows vars row l r (operation.Store st i) way.Fall (record { cr = s .cr; values = stored st i s })
+  follow-store vars ss St i row s b l r e f a = (withVariable o row l i l, refl, with-variable vars ss (operation.Store St i) row s b l e i (ltb-true i (length vars) (b .names)) l (s .cr) e)
+  follow-store vars ss Stn i row s b l r e f a =
+      (withVariable o row l i (opposites o l), refl, with-variable vars ss (operation.Store Stn i) row s b l e i (ltb-true i (length vars) (b .names)) (opposites o l) (opposite (s .cr)) (opposite-covers o law l (s .cr) (and-parts (isBool (sortOf (s .cr))) _ a .0) e))
+  follow-store vars ss Set i row s b l r e f a =
+      let t = and-parts (isBool (sortOf (s .cr))) (isBool (sortOf (getD (s .values) i Unset))) a in
+      let c = bool-is (s .cr) (t .0) in
+      let d = bool-is (getD (s .values) i Unset) (t .1) in
+      let new : covers o (storedCell o Set l r) (cond (c .0) (Bool true) (Bool (d .0))) ≡ true = set-covers l r (c .0) (d .0) (subst (λ v. covers o l v ≡ true) (c .1) e) (subst (λ v. covers o r v ≡ true) (d .1) f) in
+      let is : set (s .values) i (cond (c .0) (Bool true) (Bool (d .0))) ≡ stored Set i s = written (c .0) (s .cr) (c .1) true (d .0) (d .1) in
+      (withVariable o row l i (storedCell o Set l r), refl, subst (λ vs. CoversState o (withVariable o row l i (storedCell o Set l r)) (record { cr = s .cr; values = vs })) is (with-variable vars ss (operation.Store Set i) row s b l e i (ltb-true i (length vars) (b .names)) (storedCell o Set l r) (cond (c .0) (Bool true) (Bool (d .0))) new))
+    where
+    written : (c : Truth) (v : Value) → v ≡ Bool c → (k d : Truth) → getD (s .values) i Unset ≡ Bool d → set (s .values) i (cond c (Bool k) (Bool d)) ≡ cond (truthOf v) (set (s .values) i (Bool k)) (s .values)
+    written true v e k d f = sym (ap (λ v. cond (truthOf v) (set (s .values) i (Bool k)) (s .values)) e)
+    written false v e k d f = ap (set (s .values) i) (sym f) ∙ set-getD (s .values) i Unset ∙ sym (ap (λ v. cond (truthOf v) (set (s .values) i (Bool k)) (s .values)) e)
+  follow-store vars ss Reset i row s b l r e f a =
+      let t = and-parts (isBool (sortOf (s .cr))) (isBool (sortOf (getD (s .values) i Unset))) a in
+      let c = bool-is (s .cr) (t .0) in
+      let d = bool-is (getD (s .values) i Unset) (t .1) in
+      let new : covers o (storedCell o Reset l r) (cond (c .0) (Bool false) (Bool (d .0))) ≡ true = reset-covers l r (c .0) (d .0) (subst (λ v. covers o l v ≡ true) (c .1) e) (subst (λ v. covers o r v ≡ true) (d .1) f) in
+      let is : set (s .values) i (cond (c .0) (Bool false) (Bool (d .0))) ≡ stored Reset i s = written (c .0) (s .cr) (c .1) false (d .0) (d .1) in
+      (withVariable o row l i (storedCell o Reset l r), refl, subst (λ vs. CoversState o (withVariable o row l i (storedCell o Reset l r)) (record { cr = s .cr; values = vs })) is (with-variable vars ss (operation.Store Reset i) row s b l e i (ltb-true i (length vars) (b .names)) (storedCell o Reset l r) (cond (c .0) (Bool false) (Bool (d .0))) new))
+    where
+    written : (c : Truth) (v : Value) → v ≡ Bool c → (k d : Truth) → getD (s .values) i Unset ≡ Bool d → set (s .values) i (cond c (Bool k) (Bool d)) ≡ cond (truthOf v) (set (s .values) i (Bool k)) (s .values)
+    written true v e k d f = sym (ap (λ v. cond (truthOf v) (set (s .values) i (Bool k)) (s .values)) e)
+    written false v e k d f = ap (set (s .values) i) (sym f) ∙ set-getD (s .values) i Unset ∙ sym (ap (λ v. cond (truthOf v) (set (s .values) i (Bool k)) (s .values)) e)
+
+  -- what an operator's answer says of the new state
+  result-is : (s : State) (r : Result Value Cause) (edge : Edge) (t : State) → resultOf s r ≡ Ok (edge, t) → (v : Value) × (r ≡ Ok v) × (edge ≡ way.Fall) × (t ≡ record { cr = v; values = s .values })
+  result-is s (Ok v) edge t e = (v, refl, (let q : way.Fall ≡ edge = cc in sym q), (let q : record { cr = v; values = s .values } ≡ t = cc in sym q))
+  result-is s (Err c) edge t e = never′ (edge, t) c e
+
+  -- an operation on accepted values
+  follow : (vars : List Variable) (ss : List Statement) (op : Operation) (row : List (Cell S)) (s : State) (b : Before o vars ss op row s) (l r : Cell S) → covers o l (s .cr) ≡ true → covers o r (operand vars (s .values) op) ≡ true → accepted op (sortOf (s .cr)) (sortOf (operand vars (s .values) op)) ≡ true → (edge : Edge) (t : State) → performed op (operand vars (s .values) op) s ≡ Ok (edge, t) → (op ≡ operation.Return → ⊥) → Follows vars row l r op edge t
+  follow vars ss operation.Return row s b l r e f a edge t p n = absurd (n refl)
+  follow vars ss operation.Not row s b l r e f a edge t p n =
+      let q : way.Fall ≡ edge = cc in
+      let u : record { cr = opposite (s .cr); values = s .values } ≡ t = cc in
+      subst (λ edge. Follows vars row l r operation.Not edge t) q (subst (Follows vars row l r operation.Not way.Fall) u (withResult o row (opposites o l), refl, with-result vars ss operation.Not row s b (opposites o l) (opposite (s .cr)) (opposite-covers o law l (s .cr) a e)))
+  follow vars ss (operation.Label name) row s b l r e f a edge t p n =
+      let q : way.Fall ≡ edge = cc in
+      let u : s ≡ t = cc in
+      subst (λ edge. Follows vars row l r (operation.Label name) edge t) q (subst (Follows vars row l r (operation.Label name) way.Fall) u (withResult o row l, refl, with-result vars ss (operation.Label name) row s b l (s .cr) e))
+  follow vars ss (operation.Apply k y) row s b l r e f a edge t p n =
+      let w = result-is s (computed k (s .cr) (operand vars (s .values) (operation.Apply k y))) edge t p in
+      let c : covers o (transferred o k l r) (w .0) ≡ true = transferred-covers o law l r k (s .cr) (operand vars (s .values) (operation.Apply k y)) (b .sized .cr) (operand-sized o law vars row s (b .long) (b .sized) (b .ordered) (each-from o row (s .cr ∷ s .values) (b .covered)) ss (operation.Apply k y) (b .names)) e f a (w .0) (w .1) in
+      subst (λ edge. Follows vars row l r (operation.Apply k y) edge t) (sym (w .2)) (subst (Follows vars row l r (operation.Apply k y) way.Fall) (sym (w .3)) (withResult o row (transferred o k l r), refl, with-result vars ss (operation.Apply k y) row s b (transferred o k l r) (w .0) c))
+  follow vars ss (operation.Store st i) row s b l r e f a edge t p n =
+      let q : way.Fall ≡ edge = cc in
+      let u : record { cr = s .cr; values = stored st i s } ≡ t = cc in
+      subst (λ edge. Follows vars row l r (operation.Store st i) edge t) q (subst (Follows vars row l r (operation.Store st i) way.Fall) u (follow-store vars ss st i row s b l r e f a))
+  follow vars ss (operation.Jump j g) row s b l r e f a edge t p n =
+      let q : cond (jumps j (s .cr)) way.Jump way.Fall ≡ edge = cc in
+      let u : s ≡ t = cc in
+      subst (λ edge. Follows vars row l r (operation.Jump j g) edge t) q (subst (Follows vars row l r (operation.Jump j g) (cond (jumps j (s .cr)) way.Jump way.Fall)) u (follow-jump vars ss j g row s b l r e a))
+
+  pub simulates : Simulates o
+  simulates vars ss op row s b edge t p n = by (accepted op (sortOf (s .cr)) (sortOf x′)) refl p
+    where
+    x′ : Value
+    x′ = operand vars (s .values) op
+
+    by : (c : Truth) → accepted op (sortOf (s .cr)) (sortOf x′) ≡ c → cond c (performed op x′ s) (Err Kind) ≡ Ok (edge, t) → (next : List (Cell S)) × (carried o vars row op edge ≡ Some next) × CoversState o next t
+    by false a p = never′ (edge, t) Kind p
+    by true a p =
+        let each′ = each-from o row (s .cr ∷ s .values) (b .covered) in
+        let f = follow vars ss op row s b (leftOf o vars row op) (rightOf o vars row op) (left-covers o law vars row s (b .long) (b .sized) (b .ordered) each′ ss op (b .names) a) (right-covers o law vars row s (b .long) (b .sized) (b .ordered) each′ ss op (b .names) a) a edge t p n in
+        (f .0, carries o law vars row s (b .long) (b .sized) (b .ordered) each′ ss op (b .names) a edge ∙ f .1, f .2)
