@@ -46,6 +46,9 @@ never y z e = absurd (let q : _≡_ {A = ℕ} 0 1 = cc in omega arith)
 never′ : {X : Type 0} {Y Z : Type 0} (y : Y) (z : Z) → _≡_ {A = Result Y Z} (Err z) (Ok y) → X
 never′ y z e = absurd (let q : _≡_ {A = ℕ} 0 1 = cc in omega arith)
 
+same-pair : (p q : Edge × State) → _≡_ {A = Result (Edge × State) Cause} (Ok p) (Ok q) → p ≡ q
+same-pair p q e = cc
+
 module _ {S : Type 0} (o : Ops S) (law : Lawful o) where
   -- a truth that takes a way on stays covered
   only-covers : (x : Cell S) (t : Truth) → covers o x (Bool t) ≡ true → covers o (onlyTruth o t x) (Bool t) ≡ true
@@ -139,31 +142,35 @@ module _ {S : Type 0} (o : Ops S) (law : Lawful o) where
 
   -- what an operator's answer says of the new state
   result-is : (s : State) (r : Result Value Cause) (edge : Edge) (t : State) → resultOf s r ≡ Ok (edge, t) → (v : Value) × (r ≡ Ok v) × (edge ≡ way.Fall) × (t ≡ record { cr = v; values = s .values })
-  result-is s (Ok v) edge t e = (v, refl, (let q : way.Fall ≡ edge = cc in sym q), (let q : record { cr = v; values = s .values } ≡ t = cc in sym q))
+  result-is s (Ok v) edge t e = let q = same-pair (way.Fall, record { cr = v; values = s .values }) (edge, t) e in (v, refl, sym (ap (λ p. p .0) q), sym (ap (λ p. p .1) q))
   result-is s (Err c) edge t e = never′ (edge, t) c e
 
   -- an operation on accepted values
   follow : (vars : List Variable) (ss : List Statement) (op : Operation) (row : List (Cell S)) (s : State) (b : Before o vars ss op row s) (l r : Cell S) → covers o l (s .cr) ≡ true → covers o r (operand vars (s .values) op) ≡ true → accepted op (sortOf (s .cr)) (sortOf (operand vars (s .values) op)) ≡ true → (edge : Edge) (t : State) → performed op (operand vars (s .values) op) s ≡ Ok (edge, t) → (op ≡ operation.Return → ⊥) → Follows vars row l r op edge t
   follow vars ss operation.Return row s b l r e f a edge t p n = absurd (n refl)
   follow vars ss operation.Not row s b l r e f a edge t p n =
-      let q : way.Fall ≡ edge = cc in
-      let u : record { cr = opposite (s .cr); values = s .values } ≡ t = cc in
+      let z = same-pair (way.Fall, record { cr = opposite (s .cr); values = s .values }) (edge, t) p in
+      let q : way.Fall ≡ edge = ap (λ p. p .0) z in
+      let u : record { cr = opposite (s .cr); values = s .values } ≡ t = ap (λ p. p .1) z in
       subst (λ edge. Follows vars row l r operation.Not edge t) q (subst (Follows vars row l r operation.Not way.Fall) u (withResult o row (opposites o l), refl, with-result vars ss operation.Not row s b (opposites o l) (opposite (s .cr)) (opposite-covers o law l (s .cr) a e)))
   follow vars ss (operation.Label name) row s b l r e f a edge t p n =
-      let q : way.Fall ≡ edge = cc in
-      let u : s ≡ t = cc in
+      let z = same-pair (way.Fall, s) (edge, t) p in
+      let q : way.Fall ≡ edge = ap (λ p. p .0) z in
+      let u : s ≡ t = ap (λ p. p .1) z in
       subst (λ edge. Follows vars row l r (operation.Label name) edge t) q (subst (Follows vars row l r (operation.Label name) way.Fall) u (withResult o row l, refl, with-result vars ss (operation.Label name) row s b l (s .cr) e))
   follow vars ss (operation.Apply k y) row s b l r e f a edge t p n =
       let w = result-is s (computed k (s .cr) (operand vars (s .values) (operation.Apply k y))) edge t p in
       let c : covers o (transferred o k l r) (w .0) ≡ true = transferred-covers o law l r k (s .cr) (operand vars (s .values) (operation.Apply k y)) (b .sized .cr) (operand-sized o law vars row s (b .long) (b .sized) (b .ordered) (each-from o row (s .cr ∷ s .values) (b .covered)) ss (operation.Apply k y) (b .names)) e f a (w .0) (w .1) in
       subst (λ edge. Follows vars row l r (operation.Apply k y) edge t) (sym (w .2)) (subst (Follows vars row l r (operation.Apply k y) way.Fall) (sym (w .3)) (withResult o row (transferred o k l r), refl, with-result vars ss (operation.Apply k y) row s b (transferred o k l r) (w .0) c))
   follow vars ss (operation.Store st i) row s b l r e f a edge t p n =
-      let q : way.Fall ≡ edge = cc in
-      let u : record { cr = s .cr; values = stored st i s } ≡ t = cc in
+      let z = same-pair (way.Fall, record { cr = s .cr; values = stored st i s }) (edge, t) p in
+      let q : way.Fall ≡ edge = ap (λ p. p .0) z in
+      let u : record { cr = s .cr; values = stored st i s } ≡ t = ap (λ p. p .1) z in
       subst (λ edge. Follows vars row l r (operation.Store st i) edge t) q (subst (Follows vars row l r (operation.Store st i) way.Fall) u (follow-store vars ss st i row s b l r e f a))
   follow vars ss (operation.Jump j g) row s b l r e f a edge t p n =
-      let q : cond (jumps j (s .cr)) way.Jump way.Fall ≡ edge = cc in
-      let u : s ≡ t = cc in
+      let z = same-pair (cond (jumps j (s .cr)) way.Jump way.Fall, s) (edge, t) p in
+      let q : cond (jumps j (s .cr)) way.Jump way.Fall ≡ edge = ap (λ p. p .0) z in
+      let u : s ≡ t = ap (λ p. p .1) z in
       subst (λ edge. Follows vars row l r (operation.Jump j g) edge t) q (subst (Follows vars row l r (operation.Jump j g) (cond (jumps j (s .cr)) way.Jump way.Fall)) u (follow-jump vars ss j g row s b l r e a))
 
   pub simulates : Simulates o
