@@ -20,12 +20,7 @@ impl<D: Domain> Cell<D> {
     pub fn nothing() -> Cell<D>
         ensures { λ r. ⌜ r ≡ nothing ops ⌝ }
     {
-        Cell {
-            unset: false,
-            can_be_false: false,
-            can_be_true: false,
-            numbers: D::span(1, 0),
-        }
+        Cell::of_range(1, 0)
     }
 
     // The cell that allows both truths.

@@ -45,23 +45,23 @@ number-is (Int n) e = (n, refl)
 pub sized-is : (z : ℤ) (v : Value) → sized z ≡ Ok v → (isInt z ≡ true) × (v ≡ Int z)
 sized-is z v e = by (isInt z) refl e
   where
-  by : (b : Truth) → isInt z ≡ b → cond b (Ok (Int z)) (Err Overflow) ≡ Ok v → (isInt z ≡ true) × (v ≡ Int z)
-  by true i e = (i, let s : Int z ≡ v = cc in sym s)
-  by false i e = absurd (let x : _≡_ {A = ℕ} 0 1 = cc in omega arith)
+    by : (b : Truth) → isInt z ≡ b → cond b (Ok (Int z)) (Err Overflow) ≡ Ok v → (isInt z ≡ true) × (v ≡ Int z)
+    by true i e = (i, let s : Int z ≡ v = cc in sym s)
+    by false i e = absurd (let x : _≡_ {A = ℕ} 0 1 = cc in omega arith)
 
 pub sized-stops : (z : ℤ) (cause : Cause) → sized z ≡ Err cause → (isInt z ≡ false) × (cause ≡ Overflow)
 sized-stops z cause e = by (isInt z) refl e
   where
-  by : (b : Truth) → isInt z ≡ b → cond b (Ok (Int z)) (Err Overflow) ≡ Err cause → (isInt z ≡ false) × (cause ≡ Overflow)
-  by true i e = absurd (let x : _≡_ {A = ℕ} 0 1 = cc in omega arith)
-  by false i e = (i, let s : Overflow ≡ cause = cc in sym s)
+    by : (b : Truth) → isInt z ≡ b → cond b (Ok (Int z)) (Err Overflow) ≡ Err cause → (isInt z ≡ false) × (cause ≡ Overflow)
+    by true i e = absurd (let x : _≡_ {A = ℕ} 0 1 = cc in omega arith)
+    by false i e = (i, let s : Overflow ≡ cause = cc in sym s)
 
 pub quotient-is : (a b : ℤ) (v : Value) → quotient a b ≡ Ok v → (b ≡ pos 0 → ⊥) × (isInt (quotZ a b) ≡ true) × (v ≡ Int (quotZ a b))
 quotient-is a b v e = by (eqZ b (pos 0)) refl e
   where
-  by : (t : Truth) → eqZ b (pos 0) ≡ t → cond t (Err ZeroDivisor) (sized (quotZ a b)) ≡ Ok v → (b ≡ pos 0 → ⊥) × (isInt (quotZ a b) ≡ true) × (v ≡ Int (quotZ a b))
-  by true i e = absurd (let x : _≡_ {A = ℕ} 0 1 = cc in omega arith)
-  by false i e = let s = sized-is (quotZ a b) v e in (λ z. clash (eqZ b (pos 0)) (ap (λ b. eqZ b (pos 0)) z) i, s .0, s .1)
+    by : (t : Truth) → eqZ b (pos 0) ≡ t → cond t (Err ZeroDivisor) (sized (quotZ a b)) ≡ Ok v → (b ≡ pos 0 → ⊥) × (isInt (quotZ a b) ≡ true) × (v ≡ Int (quotZ a b))
+    by true i e = absurd (let x : _≡_ {A = ℕ} 0 1 = cc in omega arith)
+    by false i e = let s = sized-is (quotZ a b) v e in (λ z. clash (eqZ b (pos 0)) (ap (λ b. eqZ b (pos 0)) z) i, s .0, s .1)
 
 one-of-four : (a b c d : Truth) → (a ≡ true) ⊎ ((b ≡ true) ⊎ ((c ≡ true) ⊎ (d ≡ true))) → (a || (b || (c || d))) ≡ true
 one-of-four true b c d e = refl
@@ -83,9 +83,9 @@ module _ {S : Type 0} (o : Ops S) (law : Lawful o) where
   logical-covers : (p : Operator) (x y : Cell S) (a b : Truth) → covers o x (Bool a) ≡ true → covers o y (Bool b) ≡ true → covers o (logical o p x y) (Bool (combined p a b)) ≡ true
   logical-covers p x y a b g h = by (combined p a b) refl
     where
-    by : (t : Truth) → combined p a b ≡ t → covers o (logical o p x y) (Bool t) ≡ true
-    by true e = over-pairs (combined p) x y a b g h e
-    by false e = over-pairs (λ a b. not (combined p a b)) x y a b g h (ap not e)
+      by : (t : Truth) → combined p a b ≡ t → covers o (logical o p x y) (Bool t) ≡ true
+      by true e = over-pairs (combined p) x y a b g h e
+      by false e = over-pairs (λ a b. not (combined p a b)) x y a b g h (ap not e)
 
   -- a flag that is on covers its truth, and exchanged its opposite
   flag-covers : (t : Flags) (b : Truth) → allows t b ≡ true → covers o (flagged o t) (Bool b) ≡ true

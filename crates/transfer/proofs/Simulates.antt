@@ -40,13 +40,13 @@ use Rattle.transfer.proofs.Covering.{clash}
 use Rattle.transfer.proofs.Operators.{bool-is, opposite-covers, transferred-covers}
 use Rattle.transfer.proofs.Simulation.{Each, each-from, from-each, set-each, operand-sized, left-covers, right-covers, carries}
 
-never : {X : Type 0} {Y Z : Type 0} (y : Y) (z : Z) → _≡_ {A = Result Y Z} (Ok y) (Err z) → X
+pub never : {X : Type 0} {Y Z : Type 0} (y : Y) (z : Z) → _≡_ {A = Result Y Z} (Ok y) (Err z) → X
 never y z e = absurd (let q : _≡_ {A = ℕ} 0 1 = cc in omega arith)
 
 never′ : {X : Type 0} {Y Z : Type 0} (y : Y) (z : Z) → _≡_ {A = Result Y Z} (Err z) (Ok y) → X
 never′ y z e = absurd (let q : _≡_ {A = ℕ} 0 1 = cc in omega arith)
 
-same-pair : (p q : Edge × State) → _≡_ {A = Result (Edge × State) Cause} (Ok p) (Ok q) → p ≡ q
+pub same-pair : (p q : Edge × State) → _≡_ {A = Result (Edge × State) Cause} (Ok p) (Ok q) → p ≡ q
 same-pair p q e = cc
 
 module _ {S : Type 0} (o : Ops S) (law : Lawful o) where
@@ -100,18 +100,18 @@ module _ {S : Type 0} (o : Ops S) (law : Lawful o) where
   follow-jump vars ss Jmp t row s b l r e a = (withResult o row l, refl, with-result vars ss (operation.Jump Jmp t) row s b l (s .cr) e)
   follow-jump vars ss Jmpc t row s b l r e a = by (s .cr) (bool-is (s .cr) a) e refl
     where
-    by : (v : Value) → (c : Truth) × (v ≡ Bool c) → covers o l v ≡ true → s .cr ≡ v → Follows vars row l r (operation.Jump Jmpc t) (cond (truthOf v) way.Jump way.Fall) s
-    by Unset c e q = clash false (let z : _≡_ {A = ℕ} 0 1 = (let y = c .1 in cc) in absurd (omega arith)) refl
-    by (Int n) c e q = clash false (let z : _≡_ {A = ℕ} 0 1 = (let y = c .1 in cc) in absurd (omega arith)) refl
-    by (Bool true) c e q = (withResult o row (onlyTruth o true l), refl, with-result vars ss (operation.Jump Jmpc t) row s b (onlyTruth o true l) (s .cr) (ap (covers o (onlyTruth o true l)) q ∙ only-covers l true e))
-    by (Bool false) c e q = (withResult o row (onlyTruth o false l), refl, with-result vars ss (operation.Jump Jmpc t) row s b (onlyTruth o false l) (s .cr) (ap (covers o (onlyTruth o false l)) q ∙ only-covers l false e))
+      by : (v : Value) → (c : Truth) × (v ≡ Bool c) → covers o l v ≡ true → s .cr ≡ v → Follows vars row l r (operation.Jump Jmpc t) (cond (truthOf v) way.Jump way.Fall) s
+      by Unset c e q = clash false (let z : _≡_ {A = ℕ} 0 1 = (let y = c .1 in cc) in absurd (omega arith)) refl
+      by (Int n) c e q = clash false (let z : _≡_ {A = ℕ} 0 1 = (let y = c .1 in cc) in absurd (omega arith)) refl
+      by (Bool true) c e q = (withResult o row (onlyTruth o true l), refl, with-result vars ss (operation.Jump Jmpc t) row s b (onlyTruth o true l) (s .cr) (ap (covers o (onlyTruth o true l)) q ∙ only-covers l true e))
+      by (Bool false) c e q = (withResult o row (onlyTruth o false l), refl, with-result vars ss (operation.Jump Jmpc t) row s b (onlyTruth o false l) (s .cr) (ap (covers o (onlyTruth o false l)) q ∙ only-covers l false e))
   follow-jump vars ss Jmpcn t row s b l r e a = by (s .cr) (bool-is (s .cr) a) e refl
     where
-    by : (v : Value) → (c : Truth) × (v ≡ Bool c) → covers o l v ≡ true → s .cr ≡ v → Follows vars row l r (operation.Jump Jmpcn t) (cond (not (truthOf v)) way.Jump way.Fall) s
-    by Unset c e q = clash false (let z : _≡_ {A = ℕ} 0 1 = (let y = c .1 in cc) in absurd (omega arith)) refl
-    by (Int n) c e q = clash false (let z : _≡_ {A = ℕ} 0 1 = (let y = c .1 in cc) in absurd (omega arith)) refl
-    by (Bool true) c e q = (withResult o row (onlyTruth o true l), refl, with-result vars ss (operation.Jump Jmpcn t) row s b (onlyTruth o true l) (s .cr) (ap (covers o (onlyTruth o true l)) q ∙ only-covers l true e))
-    by (Bool false) c e q = (withResult o row (onlyTruth o false l), refl, with-result vars ss (operation.Jump Jmpcn t) row s b (onlyTruth o false l) (s .cr) (ap (covers o (onlyTruth o false l)) q ∙ only-covers l false e))
+      by : (v : Value) → (c : Truth) × (v ≡ Bool c) → covers o l v ≡ true → s .cr ≡ v → Follows vars row l r (operation.Jump Jmpcn t) (cond (not (truthOf v)) way.Jump way.Fall) s
+      by Unset c e q = clash false (let z : _≡_ {A = ℕ} 0 1 = (let y = c .1 in cc) in absurd (omega arith)) refl
+      by (Int n) c e q = clash false (let z : _≡_ {A = ℕ} 0 1 = (let y = c .1 in cc) in absurd (omega arith)) refl
+      by (Bool true) c e q = (withResult o row (onlyTruth o true l), refl, with-result vars ss (operation.Jump Jmpcn t) row s b (onlyTruth o true l) (s .cr) (ap (covers o (onlyTruth o true l)) q ∙ only-covers l true e))
+      by (Bool false) c e q = (withResult o row (onlyTruth o false l), refl, with-result vars ss (operation.Jump Jmpcn t) row s b (onlyTruth o false l) (s .cr) (ap (covers o (onlyTruth o false l)) q ∙ only-covers l false e))
 
   follow-store : (vars : List Variable) (ss : List Statement) (st : Store) (i : ℕ) (row : List (Cell S)) (s : State) (b : Before o vars ss (operation.Store st i) row s) (l r : Cell S) → covers o l (s .cr) ≡ true → covers o r (operand vars (s .values) (operation.Store st i)) ≡ true → acceptsStore st (sortOf (s .cr)) (sortOf (operand vars (s .values) (operation.Store st i))) ≡ true → Follows vars row l r (operation.Store st i) way.Fall (record { cr = s .cr; values = stored st i s })
   follow-store vars ss St i row s b l r e f a = (withVariable o row l i l, refl, with-variable vars ss (operation.Store St i) row s b l e i (ltb-true i (length vars) (b .names)) l (s .cr) e)
@@ -125,9 +125,9 @@ module _ {S : Type 0} (o : Ops S) (law : Lawful o) where
       let is : set (s .values) i (cond (c .0) (Bool true) (Bool (d .0))) ≡ stored Set i s = written (c .0) (s .cr) (c .1) true (d .0) (d .1) in
       (withVariable o row l i (storedCell o Set l r), refl, subst (λ vs. CoversState o (withVariable o row l i (storedCell o Set l r)) (record { cr = s .cr; values = vs })) is (with-variable vars ss (operation.Store Set i) row s b l e i (ltb-true i (length vars) (b .names)) (storedCell o Set l r) (cond (c .0) (Bool true) (Bool (d .0))) new))
     where
-    written : (c : Truth) (v : Value) → v ≡ Bool c → (k d : Truth) → getD (s .values) i Unset ≡ Bool d → set (s .values) i (cond c (Bool k) (Bool d)) ≡ cond (truthOf v) (set (s .values) i (Bool k)) (s .values)
-    written true v e k d f = sym (ap (λ v. cond (truthOf v) (set (s .values) i (Bool k)) (s .values)) e)
-    written false v e k d f = ap (set (s .values) i) (sym f) ∙ set-getD (s .values) i Unset ∙ sym (ap (λ v. cond (truthOf v) (set (s .values) i (Bool k)) (s .values)) e)
+      written : (c : Truth) (v : Value) → v ≡ Bool c → (k d : Truth) → getD (s .values) i Unset ≡ Bool d → set (s .values) i (cond c (Bool k) (Bool d)) ≡ cond (truthOf v) (set (s .values) i (Bool k)) (s .values)
+      written true v e k d f = sym (ap (λ v. cond (truthOf v) (set (s .values) i (Bool k)) (s .values)) e)
+      written false v e k d f = ap (set (s .values) i) (sym f) ∙ set-getD (s .values) i Unset ∙ sym (ap (λ v. cond (truthOf v) (set (s .values) i (Bool k)) (s .values)) e)
   follow-store vars ss Reset i row s b l r e f a =
       let t = and-parts (isBool (sortOf (s .cr))) (isBool (sortOf (getD (s .values) i Unset))) a in
       let c = bool-is (s .cr) (t .0) in
@@ -136,9 +136,9 @@ module _ {S : Type 0} (o : Ops S) (law : Lawful o) where
       let is : set (s .values) i (cond (c .0) (Bool false) (Bool (d .0))) ≡ stored Reset i s = written (c .0) (s .cr) (c .1) false (d .0) (d .1) in
       (withVariable o row l i (storedCell o Reset l r), refl, subst (λ vs. CoversState o (withVariable o row l i (storedCell o Reset l r)) (record { cr = s .cr; values = vs })) is (with-variable vars ss (operation.Store Reset i) row s b l e i (ltb-true i (length vars) (b .names)) (storedCell o Reset l r) (cond (c .0) (Bool false) (Bool (d .0))) new))
     where
-    written : (c : Truth) (v : Value) → v ≡ Bool c → (k d : Truth) → getD (s .values) i Unset ≡ Bool d → set (s .values) i (cond c (Bool k) (Bool d)) ≡ cond (truthOf v) (set (s .values) i (Bool k)) (s .values)
-    written true v e k d f = sym (ap (λ v. cond (truthOf v) (set (s .values) i (Bool k)) (s .values)) e)
-    written false v e k d f = ap (set (s .values) i) (sym f) ∙ set-getD (s .values) i Unset ∙ sym (ap (λ v. cond (truthOf v) (set (s .values) i (Bool k)) (s .values)) e)
+      written : (c : Truth) (v : Value) → v ≡ Bool c → (k d : Truth) → getD (s .values) i Unset ≡ Bool d → set (s .values) i (cond c (Bool k) (Bool d)) ≡ cond (truthOf v) (set (s .values) i (Bool k)) (s .values)
+      written true v e k d f = sym (ap (λ v. cond (truthOf v) (set (s .values) i (Bool k)) (s .values)) e)
+      written false v e k d f = ap (set (s .values) i) (sym f) ∙ set-getD (s .values) i Unset ∙ sym (ap (λ v. cond (truthOf v) (set (s .values) i (Bool k)) (s .values)) e)
 
   -- what an operator's answer says of the new state
   result-is : (s : State) (r : Result Value Cause) (edge : Edge) (t : State) → resultOf s r ≡ Ok (edge, t) → (v : Value) × (r ≡ Ok v) × (edge ≡ way.Fall) × (t ≡ record { cr = v; values = s .values })
@@ -176,12 +176,12 @@ module _ {S : Type 0} (o : Ops S) (law : Lawful o) where
   pub simulates : Simulates o
   simulates vars ss op row s b edge t p n = by (accepted op (sortOf (s .cr)) (sortOf x′)) refl p
     where
-    x′ : Value
-    x′ = operand vars (s .values) op
+      x′ : Value
+      x′ = operand vars (s .values) op
 
-    by : (c : Truth) → accepted op (sortOf (s .cr)) (sortOf x′) ≡ c → cond c (performed op x′ s) (Err Kind) ≡ Ok (edge, t) → (next : List (Cell S)) × (carried o vars row op edge ≡ Some next) × CoversState o next t
-    by false a p = never′ (edge, t) Kind p
-    by true a p =
-        let each′ = each-from o row (s .cr ∷ s .values) (b .covered) in
-        let f = follow vars ss op row s b (leftOf o vars row op) (rightOf o vars row op) (left-covers o law vars row s (b .long) (b .sized) (b .ordered) each′ ss op (b .names) a) (right-covers o law vars row s (b .long) (b .sized) (b .ordered) each′ ss op (b .names) a) a edge t p n in
-        (f .0, carries o law vars row s (b .long) (b .sized) (b .ordered) each′ ss op (b .names) a edge ∙ f .1, f .2)
+      by : (c : Truth) → accepted op (sortOf (s .cr)) (sortOf x′) ≡ c → cond c (performed op x′ s) (Err Kind) ≡ Ok (edge, t) → (next : List (Cell S)) × (carried o vars row op edge ≡ Some next) × CoversState o next t
+      by false a p = never′ (edge, t) Kind p
+      by true a p =
+          let each′ = each-from o row (s .cr ∷ s .values) (b .covered) in
+          let f = follow vars ss op row s b (leftOf o vars row op) (rightOf o vars row op) (left-covers o law vars row s (b .long) (b .sized) (b .ordered) each′ ss op (b .names) a) (right-covers o law vars row s (b .long) (b .sized) (b .ordered) each′ ss op (b .names) a) a edge t p n in
+          (f .0, carries o law vars row s (b .long) (b .sized) (b .ordered) each′ ss op (b .names) a edge ∙ f .1, f .2)

@@ -74,10 +74,10 @@ module _ {S : Type 0} (o : Ops S) where
 
 -- the state before a statement, seen through its row
 module _ {S : Type 0} (o : Ops S) (law : Lawful o) (vars : List Variable) (row : List (Cell S)) (s : State) (long : length row ≡ width vars) (z : Sized s) (ordered : (j : ℕ) → j < length vars → inOrder (getD vars j noVariable) ≡ true) (each : Each o row (s .cr ∷ s .values)) where
-  cr-covered : covers o (getD row 0 (nothing o)) (s .cr) ≡ true
+  pub cr-covered : covers o (getD row 0 (nothing o)) (s .cr) ≡ true
   cr-covered = each 0 (omega arith)
 
-  variable-covered : (i : ℕ) → i < length vars → covers o (getD row (i + 1) (nothing o)) (getD (s .values) i Unset) ≡ true
+  pub variable-covered : (i : ℕ) → i < length vars → covers o (getD row (i + 1) (nothing o)) (getD (s .values) i Unset) ≡ true
   variable-covered i l = subst (λ k. covers o (getD row k (nothing o)) (getD (s .values) i Unset) ≡ true) (sym (add-one i)) (each (suc i) (omega arith))
 
   -- a variable's declared kind has a sized value

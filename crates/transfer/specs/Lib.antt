@@ -1,4 +1,5 @@
 pub mod Rows
 pub mod Transfer
+pub mod Carrying
 pub mod Marks
 pub mod Soundness

@@ -1,7 +1,7 @@
 -- What the rows of a table promise of the statements before which they stand.
 use mathlib.Core.Path.{_≡_}
 use mathlib.Core.Bool.{true, false}
-use mathlib.Core.List.{List, _∷_}
+use mathlib.Core.List.{List, _∷_, map}
 use Prim.Native.Nat.{ℕ, _<_, _≤_}
 use lib.Signed.{_≤ℤ_}
 use lib.ListN.{length, getD}
@@ -21,11 +21,11 @@ use Rattle.reading.specs.Formed.{namesOnly, Ordered}
 use Rattle.cells.specs.declared.value.Value.{Value}
 use Rattle.cells.specs.declared.value.Value.the-variants.{Unset, Bool, Int}
 use Rattle.cells.specs.declared.cell.Cell.{Cell}
-use Rattle.cells.specs.Values.{isSized}
+use Rattle.cells.specs.Values.{valueOf, isSized}
 use Rattle.meaning.specs.declared.compute.Cause.{Cause}
 use Rattle.meaning.specs.declared.edge.Edge.{Edge}
 use Rattle.meaning.specs.Meaning.{State, perform}
-use Rattle.transfer.specs.Rows.{coversAll, width}
+use Rattle.transfer.specs.Rows.{coversAll, startRow, width}
 use Rattle.transfer.specs.Transfer.{carried, returnRow}
 use Rattle.transfer.specs.Marks.{marksOf, hasCause}
 
@@ -52,6 +52,10 @@ StartedAt Output v old new = new ≡ old
 abbrev pub Started : List Variable → List Value → List Value → Type 0
 Started vars old new = (j : ℕ) → j < length vars → StartedAt (getD vars j noVariable .declaration .class) (getD vars j noVariable) (getD old j Unset) (getD new j Unset)
 
+-- the values that a program begins with
+abbrev pub initialValues : List Variable → List Value
+initialValues vars = map (λ v. valueOf (v .declaration .initial)) vars
+
 module _ {S : Type 0} (o : Ops S) where
   -- a row covers a state
   abbrev pub CoversState : List (Cell S) → State → Type 0
@@ -73,6 +77,10 @@ module _ {S : Type 0} (o : Ops S) where
   -- and after a return, whatever the next scan is given
   abbrev pub SimulatesReturn : Type 0
   SimulatesReturn = (vars : List Variable) (ss : List Statement) (row : List (Cell S)) (s : State) → Before vars ss operation.Return row s → (new : List Value) → Started vars (s .values) new → CoversState (returnRow o vars row) (record { cr = Unset; values = new })
+
+  -- the start row covers the first state, whatever the first scan is given
+  abbrev pub StartsCovered : Type 0
+  StartsCovered = (vars : List Variable) → Ordered vars → (new : List Value) → Started vars (initialValues vars) new → CoversState (startRow o vars) (record { cr = Unset; values = new })
 
   -- stops are foreseen: where the statement stops, the marks of the row have the cause
   abbrev pub Foresees : Type 0
