@@ -1,5 +1,13 @@
 // What a job answers: text for standard output, text for standard error, and whether it refused.
 ghost use mathlib.Core.Path.{_≡_};
+ghost use mathlib.Core.List.{List, _++_};
+ghost use lib.Chars.{codes};
+ghost use lib.ListN.{length};
+ghost use Rattle.std.specs.Of.String.{string-bytes};
+ghost use Rattle.std.specs.Vec.{made};
+ghost use Rattle.std.specs.Written.{decimal};
+ghost use Rattle.std.specs.declared.option.Option.the-variants.{Some, None};
+ghost use Rattle.commands.specs.Refusal.{refusalOf};
 use crate::explain::explain_listing;
 use crate::explain::explain_program;
 use crate::explain::explain_ranges;
@@ -33,7 +41,10 @@ fn refused(
     place: usize,
     explain: bool,
     note: String,
-) -> Result<Answer, AllocError> {
+) -> Result<Answer, AllocError>
+    ensures refusal { λ r. ⌜ made r (λ a. a .refusal ≡ Some (record { number = number; place = place })) ⌝ }
+    ensures output { λ r. ⌜ made r (λ a. string-bytes (a .output) ≡ codes "refused " ++ (decimal number ++ (codes " " ++ (decimal place ++ codes "\n")))) ⌝ }
+{
     let output = format!(heap, "refused {number} {place}\n")?;
     let refusal = Some(Refusal { number, place });
     if explain {
@@ -51,12 +62,9 @@ fn refused(
     }
 }
 
-fn listed(
-    heap: Global,
-    text: &[u8],
-    program: &Program,
-    explain: bool,
-) -> Result<Answer, AllocError> {
+fn listed(heap: Global, text: &[u8], program: &Program, explain: bool) -> Result<Answer, AllocError>
+    ensures { λ r. ⌜ made r (λ a. a .refusal ≡ None) ⌝ }
+{
     let mut output = String::new(heap);
     list_program(heap, &mut output, text, program)?;
     if explain {
@@ -77,7 +85,9 @@ fn list_in(
     input: &[u8],
     variables: &mut [Variable],
     statements: &mut [Statement],
-) -> Result<Answer, AllocError> {
+) -> Result<Answer, AllocError>
+    ensures { λ r. ⌜ made r (λ a. a .refusal ≡ refusalOf (now (text .entry)) (now (input .entry)) (length (now (variables .entry))) (length (now (statements .entry)))) ⌝ }
+{
     let mut program = Program::read(text, variables, statements);
     if let Err(fault) = program.outcome() {
         let note = explain_program(heap, text, fault)?;
@@ -91,12 +101,9 @@ fn list_in(
 }
 
 // The job `list`, in as many records as the options say.
-pub fn list(
-    heap: Global,
-    options: Options,
-    text: &[u8],
-    input: &[u8],
-) -> Result<Answer, AllocError> {
+pub fn list(heap: Global, options: Options, text: &[u8], input: &[u8]) -> Result<Answer, AllocError>
+    ensures { λ r. ⌜ made r (λ a. a .refusal ≡ refusalOf (now (text .entry)) (now (input .entry)) (options .variables) (options .statements)) ⌝ }
+{
     let mut variables = vec![in heap; Variable::BLANK; options.variables]?;
     let mut statements = vec![in heap; Statement::BLANK; options.statements]?;
     list_in(
