@@ -63,41 +63,23 @@ pub(crate) fn explain_program(
     at_place(heap, "program", text, fault.place(), program_trouble(fault))
 }
 
+fn ranges_trouble(fault: RangesFault) -> &'static str {
+    match fault {
+        RangesFault::TooLong => "the text has more than 65535 bytes",
+        RangesFault::Word(fault) => word_trouble(fault),
+        RangesFault::Misfit(_) => "this word, or the end of the text, does not fit here",
+        RangesFault::Range(RangeFault::NoIntInput(_), _) => "this range is for no INT input",
+        RangesFault::Range(RangeFault::LowAboveHigh(_), _) =>
+            "this range has its low above its high",
+    }
+}
+
 pub(crate) fn explain_ranges(
     heap: Global,
     input: &[u8],
     fault: RangesFault,
 ) -> Result<String, AllocError> {
-    let place = fault.place();
-    match fault {
-        RangesFault::TooLong => at_place(
-            heap,
-            "ranges",
-            input,
-            place,
-            "the text has more than 65535 bytes",
-        ),
-        RangesFault::Word(fault) => at_place(heap, "ranges", input, place, word_trouble(fault)),
-        RangesFault::Misfit(_) => at_place(
-            heap,
-            "ranges",
-            input,
-            place,
-            "this word, or the end of the text, does not fit here",
-        ),
-        RangesFault::Range(RangeFault::NoIntInput(_)) => {
-            format!(
-                heap,
-                "ranges: the input at position {place} is no INT input\n"
-            )
-        }
-        RangesFault::Range(RangeFault::LowAboveHigh(_)) => {
-            format!(
-                heap,
-                "ranges: the low for position {place} is above the high\n"
-            )
-        }
-    }
+    at_place(heap, "ranges", input, fault.spot(), ranges_trouble(fault))
 }
 
 // What is known of the values that come in by a variable.

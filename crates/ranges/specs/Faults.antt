@@ -10,10 +10,17 @@ abbrev pub rangesNumber : RangesFault → ℕ
 rangesNumber TooLong = 1
 rangesNumber (Word f) = wordNumber f
 rangesNumber (Misfit p) = 5
-rangesNumber (Range f) = rangeNumber f
+rangesNumber (Range f p) = rangeNumber f
 
 abbrev pub rangesPlace : RangesFault → ℕ
 rangesPlace TooLong = 65535
 rangesPlace (Word f) = wordPlace f
 rangesPlace (Misfit p) = p
-rangesPlace (Range f) = rangePlace f
+rangesPlace (Range f p) = rangePlace f
+
+-- where in the text a fault is: a refused range is where it begins
+abbrev pub rangesSpot : RangesFault → ℕ
+rangesSpot TooLong = 65535
+rangesSpot (Word f) = wordPlace f
+rangesSpot (Misfit p) = p
+rangesSpot (Range f p) = p

@@ -17,6 +17,7 @@ use Rattle.program.specs.Model.{Memory, Setting, ranging}
 use Rattle.reading.specs.declared.fault.RangeFault.{RangeFault}
 use Rattle.ranges.specs.declared.fault.RangesFault.{RangesFault}
 use Rattle.ranges.specs.declared.fault.RangesFault.the-variants.{TooLong, Word, Misfit, Range}
+use Rattle.ranges.specs.declared.take.Input.{Input}
 use Rattle.ranges.specs.declared.take.Awaiting.{Awaiting}
 use Rattle.ranges.specs.declared.take.Awaiting.the-variants.{Position, Low, High}
 
@@ -45,19 +46,19 @@ abbrev pub positionAt : ℕ → ℤ → Result ℕ RangesFault
 positionAt place (pos n) = Ok n
 positionAt place (negsuc n) = Err (Misfit place)
 
-abbrev pub positionTaken : Memory → Result ℕ RangesFault → Outcome Awaiting
-positionTaken m (Ok p) = outcome (Ok (Low p)) m
-positionTaken m (Err f) = outcome (Err f) m
+abbrev pub positionTaken : Memory → ℕ → Result ℕ RangesFault → Outcome Awaiting
+positionTaken m place (Ok p) = outcome (Ok (Low (record { place = place; position = p }))) m
+positionTaken m place (Err f) = outcome (Err f) m
 
-abbrev pub rangeTaken : Result (Unit {0}) RangeFault → Result Awaiting RangesFault
-rangeTaken (Ok x) = Ok Position
-rangeTaken (Err f) = Err (Range f)
+abbrev pub rangeTaken : ℕ → Result (Unit {0}) RangeFault → Result Awaiting RangesFault
+rangeTaken place (Ok x) = Ok Position
+rangeTaken place (Err f) = Err (Range f place)
 
 -- what one number more does: the third of a range sets it
 abbrev pub numberTaken : Memory → Awaiting → ℕ → ℤ → Outcome Awaiting
-numberTaken m Position place n = positionTaken m (positionAt place n)
-numberTaken m (Low position) place n = outcome (Ok (High position n)) m
-numberTaken m (High position low) place n = outcome (rangeTaken (ranging m position low n .answer)) (ranging m position low n .after)
+numberTaken m Position place n = positionTaken m place (positionAt place n)
+numberTaken m (Low input) place n = outcome (Ok (High input n)) m
+numberTaken m (High input low) place n = outcome (rangeTaken (input .place) (ranging m (input .position) low n .answer)) (ranging m (input .position) low n .after)
 
 abbrev pub wordTakenAs : Memory → Awaiting → ℕ → Result ℤ RangesFault → Outcome Awaiting
 wordTakenAs m a place (Err f) = outcome (Err f) m
@@ -69,8 +70,8 @@ wordTaken m a place w = wordTakenAs m a place (numberIn place w)
 -- a text may end only before a range
 abbrev pub ended : Awaiting → ℕ → Result (Unit {0}) RangesFault
 ended Position end = Ok tt
-ended (Low position) end = Err (Misfit end)
-ended (High position low) end = Err (Misfit end)
+ended (Low input) end = Err (Misfit end)
+ended (High input low) end = Err (Misfit end)
 
 -- what follows a word; a fault ends the text
 abbrev pub further : Result Awaiting RangesFault → Memory → (Awaiting → Memory → Outcome (Unit {0})) → Outcome (Unit {0})

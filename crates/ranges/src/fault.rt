@@ -1,7 +1,7 @@
 // Why a text of ranges is refused.
 ghost use mathlib.Core.Path.{_≡_};
-ghost use Rattle.ranges.specs.declared.fault.RangesFault.the-variants.{Word, Range};
-ghost use Rattle.ranges.specs.Faults.{rangesNumber, rangesPlace};
+ghost use Rattle.ranges.specs.declared.fault.RangesFault.the-variants.{Word};
+ghost use Rattle.ranges.specs.Faults.{rangesNumber, rangesPlace, rangesSpot};
 use reading::fault::RangeFault;
 use words::WordFault;
 
@@ -12,7 +12,8 @@ pub enum RangesFault {
     Word(WordFault),
     // a word that does not fit, or the end of the text
     Misfit(usize),
-    Range(RangeFault),
+    // a range that the program refuses, which begins at a place of the text
+    Range(RangeFault, usize),
 }
 
 pub impl From<WordFault> for RangesFault as RangesFaultFromWord {
@@ -20,14 +21,6 @@ pub impl From<WordFault> for RangesFault as RangesFaultFromWord {
 
     fn from(fault: WordFault) -> RangesFault {
         RangesFault::Word(fault)
-    }
-}
-
-pub impl From<RangeFault> for RangesFault as RangesFaultFromRange {
-    ghost converts = { λ f r. r ≡ Range f };
-
-    fn from(fault: RangeFault) -> RangesFault {
-        RangesFault::Range(fault)
     }
 }
 
@@ -40,7 +33,7 @@ impl RangesFault {
             RangesFault::TooLong => 1,
             RangesFault::Word(fault) => fault.number(),
             RangesFault::Misfit(_) => 5,
-            RangesFault::Range(fault) => fault.number(),
+            RangesFault::Range(fault, _) => fault.number(),
         }
     }
 
@@ -52,7 +45,19 @@ impl RangesFault {
             RangesFault::TooLong => 65_535,
             RangesFault::Word(fault) => fault.place(),
             RangesFault::Misfit(place) => *place,
-            RangesFault::Range(fault) => fault.place(),
+            RangesFault::Range(fault, _) => fault.place(),
+        }
+    }
+
+    // Where in the text it is: of a refused range, where that begins.
+    pub fn spot(&self) -> usize
+        ensures { λ r. ⌜ r ≡ rangesSpot (now (self .entry)) ⌝ }
+    {
+        match self {
+            RangesFault::TooLong => 65_535,
+            RangesFault::Word(fault) => fault.place(),
+            RangesFault::Misfit(start) => *start,
+            RangesFault::Range(_, place) => *place,
         }
     }
 }

@@ -1,22 +1,29 @@
 // What each number of a range does.
 ghost use mathlib.Core.Path.{_≡_};
+ghost use denote.Ref.{name};
 ghost use Rattle.program.specs.Model.{memory};
 ghost use Rattle.words.specs.Words.{seen};
 ghost use Rattle.ranges.specs.Ranges.{numberIn, positionAt, numberTaken, wordTaken, TookAs};
 use crate::fault::RangesFault;
-use crate::fault::RangesFaultFromRange;
 use numbers::Int;
 use program::Program;
 use words::Word;
+
+// The input that a range is for, and where the range begins in its text.
+#[derive(Clone, Copy)]
+pub struct Input {
+    pub place: usize,
+    pub position: usize,
+}
 
 // Which number of a range is to come.
 #[derive(Clone, Copy)]
 pub enum Awaiting {
     Position,
     // after the position
-    Low(usize),
+    Low(Input),
     // after the position and the low
-    High(usize, Int),
+    High(Input, Int),
 }
 
 // The value of a number word; no other word fits.
@@ -49,17 +56,19 @@ fn take_number(
     place: usize,
     number: Int,
 ) -> Result<Awaiting, RangesFault>
-    ensures { λ r. ⌜ TookAs (numberTaken (memory (now (program .entry))) awaiting place number) r (memory (now (program .exit))) ⌝ }
+    ensures is { λ r. ⌜ TookAs (numberTaken (memory (now (program .entry))) awaiting place number) r (memory (now (program .exit))) ⌝ }
+    ensures variables { λ _. ⌜ name (now (program .exit) .variables) ≡ name (now (program .entry) .variables) ⌝ }
+    ensures statements { λ _. ⌜ name (now (program .exit) .statements) ≡ name (now (program .entry) .statements) ⌝ }
 {
     match awaiting {
         Awaiting::Position => {
             let position = position_at(place, number)?;
-            Ok(Awaiting::Low(position))
+            Ok(Awaiting::Low(Input { place, position }))
         }
-        Awaiting::Low(position) => Ok(Awaiting::High(position, number)),
-        Awaiting::High(position, low) => match program.set_range(position, low, number) {
+        Awaiting::Low(input) => Ok(Awaiting::High(input, number)),
+        Awaiting::High(input, low) => match program.set_range(input.position, low, number) {
             Ok(_) => Ok(Awaiting::Position),
-            Err(fault) => Err(RangesFault::Range(fault)),
+            Err(fault) => Err(RangesFault::Range(fault, input.place)),
         },
     }
 }
@@ -70,7 +79,9 @@ pub(crate) fn take_word(
     place: usize,
     word: Word,
 ) -> Result<Awaiting, RangesFault>
-    ensures { λ r. ⌜ TookAs (wordTaken (memory (now (program .entry))) awaiting place (seen (word .entry))) r (memory (now (program .exit))) ⌝ }
+    ensures is { λ r. ⌜ TookAs (wordTaken (memory (now (program .entry))) awaiting place (seen (word .entry))) r (memory (now (program .exit))) ⌝ }
+    ensures variables { λ _. ⌜ name (now (program .exit) .variables) ≡ name (now (program .entry) .variables) ⌝ }
+    ensures statements { λ _. ⌜ name (now (program .exit) .statements) ≡ name (now (program .entry) .statements) ⌝ }
 {
     let number = number_in(place, word)?;
     take_number(program, awaiting, place, number)

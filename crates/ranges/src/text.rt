@@ -1,5 +1,6 @@
 // A whole text of ranges.
 ghost use mathlib.Core.Path.{_≡_};
+ghost use denote.Ref.{name};
 ghost use Rattle.program.specs.Model.{memory};
 ghost use Rattle.ranges.specs.Ranges.{ended, takenAll, setting, SetAs};
 use crate::fault::RangesFault;
@@ -23,7 +24,9 @@ fn end(awaiting: Awaiting, place: usize) -> Result<(), RangesFault>
 
 // Sets each range as its three words are read.
 fn take_words(program: &mut Program, text: &[u8]) -> Result<(), RangesFault>
-    ensures { λ r. ⌜ SetAs (takenAll (now (text .entry)) (memory (now (program .entry)))) r (memory (now (program .exit))) ⌝ }
+    ensures is { λ r. ⌜ SetAs (takenAll (now (text .entry)) (memory (now (program .entry)))) r (memory (now (program .exit))) ⌝ }
+    ensures variables { λ _. ⌜ name (now (program .exit) .variables) ≡ name (now (program .entry) .variables) ⌝ }
+    ensures statements { λ _. ⌜ name (now (program .exit) .statements) ≡ name (now (program .entry) .statements) ⌝ }
 {
     let mut reader = Reader::new(text);
     let mut awaiting = Awaiting::Position;
@@ -35,7 +38,9 @@ fn take_words(program: &mut Program, text: &[u8]) -> Result<(), RangesFault>
 
 // Sets the ranges that a text writes, in their order; the first fault ends it, and the ranges before that stay set.
 pub fn set_ranges(program: &mut Program, text: &[u8]) -> Result<(), RangesFault>
-    ensures { λ r. ⌜ SetAs (setting (now (text .entry)) (memory (now (program .entry)))) r (memory (now (program .exit))) ⌝ }
+    ensures is { λ r. ⌜ SetAs (setting (now (text .entry)) (memory (now (program .entry)))) r (memory (now (program .exit))) ⌝ }
+    ensures variables { λ _. ⌜ name (now (program .exit) .variables) ≡ name (now (program .entry) .variables) ⌝ }
+    ensures statements { λ _. ⌜ name (now (program .exit) .statements) ≡ name (now (program .entry) .statements) ⌝ }
 {
     if text.len() > MOST_BYTES {
         return Err(RangesFault::TooLong);
