@@ -11,7 +11,7 @@ use Rattle.std.proofs.shelf.Tests.{and-parts, and-from, or-cases, false≢true,
 use Rattle.std.proofs.shelf.Ways.{tells}
 use Rattle.numbers.specs.Arithmetic.{eqZ}
 use Rattle.numbers.specs.Int.{isInt, lowest, highest}
-use Rattle.numbers.proofs.Tests.{eqZ-same, eqZ-other}
+use Rattle.numbers.proofs.Comparisons.{eqZ-same, eqZ-other}
 use Rattle.domain.specs.Domain.{holds, allows}
 use Rattle.interval.specs.Ends.{ordered, among, inside, leaves, least-to-greatest, results, none}
 use Rattle.interval.specs.Exact.{ends-int, Found, Exact, Exact-overflow, Exact-flags}
