@@ -5,7 +5,7 @@ use lib.Signed.{_≤ℤ_}
 use mir.Syntax.{w16}
 use mir.Val.{SFits}
 use Rattle.std.proofs.shelf.Tests.{and-from, cond-true}
-use Rattle.numbers.proofs.Tests.{le-test}
+use Rattle.numbers.proofs.Comparisons.{le-test}
 use Rattle.numbers.proofs.Widening.{wide, passed, Fit, passed-is}
 use Rattle.interval.specs.Ends.{least-to-greatest, results, from-to}
 use Rattle.interval.specs.declared.ends.Ends.{Ends}

@@ -1,4 +1,5 @@
 pub mod Corners
 pub mod Edges
+pub mod Exactness
 pub mod Meaning
 pub mod Order

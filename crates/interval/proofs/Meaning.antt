@@ -10,7 +10,7 @@ use Rattle.std.proofs.shelf.Ways.{tells}
 use Rattle.numbers.specs.Arithmetic.{eqZ}
 use Rattle.numbers.specs.Int.{isInt, lowest, highest}
 use Rattle.domain.specs.Domain.{Lawful, holds, allows, Holds-results, Asks-overflow, Flags-truth}
-use Rattle.numbers.proofs.Tests.{below-test, int-between}
+use Rattle.numbers.proofs.Comparisons.{below-test, int-between}
 use Rattle.interval.specs.Ends.{from-to, among, inside, hull, results, quotients, leaves}
 use Rattle.interval.specs.Interval.{ends, interval, fitted, interval-ops}
 use Rattle.interval.specs.declared.ends.Ends.{Ends}

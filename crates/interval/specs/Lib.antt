@@ -1,3 +1,4 @@
 pub mod Ends
+pub mod Exact
 pub mod Interval
 pub mod Range

@@ -2,6 +2,7 @@
 ghost use mathlib.Core.Path.{_≡_};
 ghost use lib.IntN.{_+ℤ_, _-ℤ_, _*ℤ_};
 ghost use Rattle.interval.specs.Ends.{results, quotients};
+ghost use Rattle.interval.specs.Exact.{Exact};
 ghost use Rattle.interval.specs.Interval.{interval-ops, ends};
 
 mod ends;
@@ -75,6 +76,11 @@ fn ratios(x: Interval, y: Interval) -> Ends
     x.div(y)
 }
 
+// Does nothing: its contract is the theorem that a yes of the interval's questions, and a flag that is on, has numbers in both intervals for its reason.
+pub fn answers_are_exact()
+    ensures { λ _. ⌜ Exact ⌝ }
+{}
+
 pub impl Domain for Interval as IntervalDomain {
     ghost ops = { interval-ops };
 
@@ -91,7 +97,7 @@ pub impl Domain for Interval as IntervalDomain {
     }
 
     fn is_empty(self) -> bool {
-        self.high < self.low
+        self.low > self.high
     }
 
     fn add(self, other: Interval) -> Interval {

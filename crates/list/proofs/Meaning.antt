@@ -22,7 +22,7 @@ use Rattle.list.specs.declared.operations.Operation.{Operation}
 use Rattle.list.specs.declared.operations.Operation.the-variants.{Add, Sub, Mul, Div}
 use Rattle.list.specs.declared.operations.Test.{Test}
 use Rattle.list.specs.declared.operations.Test.the-variants.{SumLeaves, DifferenceLeaves, ProductLeaves, Less, NotLess, Equal, Differ}
-use Rattle.numbers.proofs.Tests.{below-test, eqZ-other, int-between}
+use Rattle.numbers.proofs.Comparisons.{below-test, eqZ-other, int-between}
 use Rattle.list.proofs.Loops.{counted-none}
 use Rattle.list.proofs.Members.{member-left, member-right, member-append, counted-has, pairs-has, some-has}
 use Rattle.list.proofs.Sets as sets

@@ -16,7 +16,7 @@ use Rattle.std.specs.declared.option.Option.the-variants.{Some, None}
 use Rattle.std.specs.shelf.Lists.{folded}
 use Rattle.numbers.specs.Arithmetic.{eqZ}
 use Rattle.list.specs.Numbers.{member, all-in, rising, ascending, placed, sorted, counted, if-any, row, pairs, some-with, some-pair}
-use Rattle.numbers.proofs.Tests.{eqZ-same, eqZ-true, le-test}
+use Rattle.numbers.proofs.Comparisons.{eqZ-same, eqZ-true, le-test}
 
 -- the two ways to stand in a list
 here : (x n : ℤ) (xs : List ℤ) → x ≡ n → member n (x ∷ xs) ≡ true

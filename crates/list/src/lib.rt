@@ -303,7 +303,7 @@ pub impl Domain for NumberList as ListDomain {
     }
 
     fn widen(self, joined: NumberList) -> NumberList {
-        if lists_none(&self) || lies_within(&joined, &self) {
+        if self.is_empty() || joined.within(self) {
             return joined;
         }
         all()

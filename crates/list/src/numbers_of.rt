@@ -1,6 +1,7 @@
 // Numbers in a slice.
 ghost use mathlib.Core.Path.{_≡_};
-ghost use Prim.Native.Nat.{_<_};
+ghost use Prim.Native.Nat.{_<_, _≤_};
+ghost use lib.ListN.{length};
 ghost use Rattle.list.specs.Insertion.{place, stands-at, shifted-in};
 ghost use Rattle.list.specs.Numbers.{member, all-in, ascending};
 use numbers::Int;
@@ -43,7 +44,8 @@ pub(crate) fn has_all(others: &[Int], numbers: &[Int]) -> bool
 
 // How many numbers stand at the front that are below `n`.
 pub(crate) fn place_of(numbers: &[Int], n: Int) -> usize
-    ensures { λ r. ⌜ r ≡ place (now (numbers .entry)) n ⌝ }
+    ensures is { λ r. ⌜ r ≡ place (now (numbers .entry)) n ⌝ }
+    ensures bound { λ r. ⌜ r ≤ length (now (numbers .entry)) ⌝ }
 {
     for (i, x) in numbers.iter().enumerate() {
         if *x >= n {

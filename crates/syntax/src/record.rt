@@ -128,7 +128,7 @@ impl Variable {
     pub fn set_range(&mut self, range: Range)
         ensures { λ _. ⌜ now (self .exit) ≡ ranged (now (self .entry)) range ⌝ }
     {
-        self.range = range;
+        *self = Variable { range, ..*self };
     }
 }
 

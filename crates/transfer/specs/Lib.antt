@@ -2,3 +2,4 @@ pub mod Rows
 pub mod Transfer
 pub mod Carrying
 pub mod Marks
+pub mod Soundness

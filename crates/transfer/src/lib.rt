@@ -4,3 +4,4 @@ pub mod carry;
 pub mod marks;
 pub mod operand;
 pub mod rows;
+pub mod soundness;

@@ -9,7 +9,7 @@ use mir.Val.{SFits}
 use Rattle.std.proofs.shelf.Lists.{at-drop-all}
 use Rattle.std.proofs.shelf.Signed.{toZ-ofZ}
 use Rattle.numbers.specs.Arithmetic.{eqZ}
-use Rattle.numbers.proofs.Tests.{eqZ-same, eqZ-other}
+use Rattle.numbers.proofs.Comparisons.{eqZ-same, eqZ-other}
 use Rattle.list.specs.Numbers.{member}
 use Rattle.list.proofs.Loops.{passed, same-bits, other-bits, or-step}
 use Rattle.list.proofs.numbers_of.has.Needs as need

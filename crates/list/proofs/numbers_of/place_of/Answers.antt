@@ -34,7 +34,7 @@ returns-then-x-n c =
     let read : SFits w16 (getD ns i (pos 0)) = search needs in
     let reached : ltZ (getD ns i (pos 0)) (passed n) ≡ false = ap (ltZ (getD ns i (pos 0))) (toZ-ofZ w16 n fits) ∙ turned _ n true read fits (c .if-x-n .taken) in
     let all : i ≡ leading (λ x. ltZ x (passed n)) ns = omega (arith, leading-drop-no (λ x. ltZ x (passed n)) ns i (pos 0) (c .loop-i-test .taken) reached, c .loop-i .inv) in
-    all ∙ ap (λ z. leading (λ x. ltZ x z) ns) (toZ-ofZ w16 n fits)
+    record { is = all ∙ ap (λ z. leading (λ x. ltZ x z) ns) (toZ-ofZ w16 n fits); bound = omega arith }
 
 pub returns : need.returns
 returns c =
@@ -42,4 +42,4 @@ returns c =
     let n = c .args .n in
     let fits : SFits w16 n = search needs in
     let all : length ns ≡ leading (λ x. ltZ x (passed n)) ns = omega (arith, leading-drop-all (λ x. ltZ x (passed n)) ns (c .loop-i .i) (c .loop-i-test .left), c .loop-i .inv, c .loop-i .kept .i-end) in
-    all ∙ ap (λ z. leading (λ x. ltZ x z) ns) (toZ-ofZ w16 n fits)
+    record { is = all ∙ ap (λ z. leading (λ x. ltZ x z) ns) (toZ-ofZ w16 n fits); bound = omega arith }

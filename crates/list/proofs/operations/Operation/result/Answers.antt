@@ -10,7 +10,7 @@ use Rattle.numbers.specs.Arithmetic.{eqZ}
 use Rattle.numbers.specs.Int.{inInt}
 use Rattle.numbers.proofs.Widening.{passed-is, products-fit, quotients-fit}
 use Rattle.list.specs.Operations.{result}
-use Rattle.numbers.proofs.Tests.{eqZ-other}
+use Rattle.numbers.proofs.Comparisons.{eqZ-other}
 use Rattle.list.proofs.operations.Operation.result.Needs as need
 
 pub returns-in-Mul : need.returns-in-Mul

@@ -1,0 +1,3 @@
+// Edges of the numeric domains, run.
+#[cfg(test)]
+mod tests;
