@@ -1,6 +1,7 @@
 // Programs run from a start, some steps on.
 use crate::support::*;
 use controller::Controller;
+use interval::IntervalDomain;
 use program::Program;
 use std::test::*;
 use syntax::record::Statement;
@@ -15,7 +16,7 @@ const LATCH: &str = "VAR_INPUT b: BOOL; END_VAR VAR_OUTPUT x: BOOL; END_VAR LD b
 
 const KINDS: &str = "VAR_INPUT b: BOOL; END_VAR VAR_OUTPUT x: INT; END_VAR LD b ADD 1 RET";
 
-// Starts with a number, takes some steps beside a table of so many equal cells, and tells the state, the counts and the output.
+// Reads a text, and runs it.
 fn run(
     text: &str,
     number: i32,
@@ -25,8 +26,24 @@ fn run(
 ) -> ((u8, usize), (u32, u32, u32), i32) {
     let mut variables = [Variable::BLANK; 8];
     let mut statements = [Statement::BLANK; 16];
-    let program = Program::read(text.as_bytes(), &mut variables, &mut statements);
-    let mut controller = Controller::new(&program);
+    run_program(
+        &Program::read(text.as_bytes(), &mut variables, &mut statements),
+        number,
+        steps,
+        size,
+        all,
+    )
+}
+
+// Starts with a number, takes some steps beside a table of so many equal cells, and tells the state, the counts and the output.
+fn run_program(
+    program: &Program,
+    number: i32,
+    steps: u32,
+    size: usize,
+    all: bool,
+) -> ((u8, usize), (u32, u32, u32), i32) {
+    let mut controller = Controller::new(program);
     let cells = [if all { ALL } else { NOTHING }; 60];
     let mut out = [-1i32; 1];
     let _ = controller.start(&[number]);
