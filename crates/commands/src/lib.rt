@@ -1,4 +1,6 @@
 // What the program prints, as functions from bytes to text.
+#![tactic(auto)]
+
 pub mod answer;
 pub mod checking;
 mod explain;

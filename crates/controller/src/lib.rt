@@ -1,4 +1,6 @@
 // A controller: it runs a program call by call, and counts what a table did not foresee.
+#![tactic(auto)]
+
 mod call;
 pub mod controller;
 pub mod counts;

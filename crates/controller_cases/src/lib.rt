@@ -1,4 +1,6 @@
 // Cases of running: programs with what a controller comes to, call by call.
+#![tactic(auto)]
+
 #[cfg(test)]
 mod calls;
 #[cfg(test)]

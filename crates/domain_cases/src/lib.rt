@@ -1,3 +1,5 @@
 // Edges of the numeric domains, run.
+#![tactic(auto)]
+
 #[cfg(test)]
 mod tests;

@@ -1,4 +1,6 @@
 // The search for a table that passes the check: sweeps up to a fixpoint.
+#![tactic(auto)]
+
 mod bring;
 mod changes;
 pub mod fault;

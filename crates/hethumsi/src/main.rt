@@ -1,4 +1,6 @@
 // Reads a program's text and its ranges, and prints what the job on the command line answers.
+#![tactic(auto)]
+
 use commands::answer::{Answer, list};
 use commands::help::USAGE;
 use options::parse;

@@ -1,4 +1,6 @@
 // The interval domain: nothing, or the INTs from a low to a high end.
+#![tactic(auto)]
+
 ghost use Rattle.std.specs.Prelude.{◌≡◌, ◌+ℤ◌, ◌-ℤ◌, ◌*ℤ◌};
 ghost use Rattle.interval.specs.Ends.{results, quotients};
 ghost use Rattle.interval.specs.Exact.{Exact};

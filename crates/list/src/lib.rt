@@ -1,4 +1,6 @@
 // The list domain: up to eight INTs, or everything.
+#![tactic(auto)]
+
 ghost use Rattle.std.specs.Prelude.{◌≡◌, [], ◌++◌, fold};
 ghost use Rattle.list.specs.Insertion.{put_in};
 ghost use Rattle.list.specs.NumberList.{listed, everything, packed, smallest, is_empty, is_within, results, some, list_ops};

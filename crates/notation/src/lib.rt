@@ -1,4 +1,6 @@
 // How number sets, cells and the lines of a sheet are written and read.
+#![tactic(auto)]
+
 ghost use Rattle.std.specs.Prelude.{◌≡◌, ℕ, List, IfOk, string_bytes, Option};
 
 pub mod cell;
@@ -14,7 +16,7 @@ use std::alloc::{AllocError, Global};
 pub trait Notation: Domain {
     ghost written: { Self → List ℕ };
 
-    ghost readAs: { List ℕ → Option Self };
+    ghost read_as: { List ℕ → Option Self };
 
     // The set as text; nothing for an empty set or a record out of form.
     fn text(self, heap: Global) -> Result<String, AllocError>

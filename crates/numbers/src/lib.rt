@@ -1,4 +1,6 @@
 // INT and the value of a number word.
+#![tactic(auto)]
+
 ghost use Rattle.std.specs.Prelude.{◌≡◌, ◌<◌, min, length, pos, ◌≢◌, slice_index};
 ghost use Rattle.numbers.specs.Int.{in_int};
 ghost use Rattle.numbers.specs.Number.{decimal, int_of};

@@ -1,4 +1,6 @@
 // The command line: which job it asks for, with which options and files.
+#![tactic(auto)]
+
 mod line;
 mod names;
 pub mod request;

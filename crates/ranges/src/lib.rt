@@ -1,4 +1,6 @@
 // The ranges of a program's inputs, as a text writes them: position, low and high of each.
+#![tactic(auto)]
+
 pub mod fault;
 pub mod front;
 mod take;

@@ -1,4 +1,6 @@
 // Cases of reading: texts with the fault that each has to give, and what good ones list.
+#![tactic(auto)]
+
 #[cfg(test)]
 mod faults;
 #[cfg(test)]

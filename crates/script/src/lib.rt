@@ -1,4 +1,6 @@
 // A script: calls of a controller, carried out as they are read, and a line for each.
+#![tactic(auto)]
+
 mod calls;
 mod carry;
 mod line;

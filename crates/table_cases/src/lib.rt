@@ -1,4 +1,6 @@
 // Cases of tables and cells as text.
+#![tactic(auto)]
+
 #[cfg(test)]
 mod cells_as_text;
 #[cfg(test)]

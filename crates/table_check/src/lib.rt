@@ -1,4 +1,6 @@
 // The check of a table, and the sheet that it hands out.
+#![tactic(auto)]
+
 pub mod fault;
 mod marking;
 mod places;

@@ -1,4 +1,6 @@
 // The text of a table, read into the caller's cells.
+#![tactic(auto)]
+
 pub mod fault;
 mod gaps;
 mod progress;

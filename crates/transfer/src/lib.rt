@@ -1,4 +1,6 @@
 // Carrying a row of cells along a statement, and the marks of a row.
+#![tactic(auto)]
+
 pub mod apply;
 pub mod carry;
 pub mod marks;

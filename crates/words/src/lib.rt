@@ -1,4 +1,6 @@
 // The words of an Instruction List text: names, numbers, `:`, `;` and `:=`, between blanks and comments.
+#![tactic(auto)]
+
 mod bytes;
 mod reader;
 mod scan;

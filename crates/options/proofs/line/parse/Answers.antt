@@ -7,7 +7,7 @@ use Rattle.options.proofs.line.parse.Goals as goal
 pub loop-word-preserved : goal.loop-word-preserved
 loop-word-preserved c =
     let p = c.loop-word.progress in
-    sym (word-taken c.args.words.now c.loop-word.word-index p c.word-item.result c.loop-word-test.true c.word-item.is c.in-ok-progress.progress (ap (taken p) (sym c.as-bytes.ensures.value) ∙ sym c.in-ok-progress.ensures))
+    sym (word-taken c.args.words.now c.loop-word.word-index p c.word-item.result c.loop-word-test.true c.word-item.is c.in_ok-progress.progress (ap (taken p) (sym c.as_bytes.ensures.value) ∙ sym c.in_ok-progress.ensures))
     ∙ c.loop-word.invariant
 
 pub returns-in-err-progress : goal.returns-in-err-progress

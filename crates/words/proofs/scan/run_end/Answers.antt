@@ -4,7 +4,7 @@ use Rattle.words.specs.Bytes.{goes_on}
 use Rattle.words.proofs.scan.run_end.Goals as goal
 
 pub loop-end-preserved : goal.loop-end-preserved
-loop-end-preserved c = (omega arith, omega arith, omega (arith, prefix_len-drop_yes (goes_on c.args.run) c.args.text.now c.loop-end.end 0 c.loop-end-test.true (sym c.if-goes-on.ensures)))
+loop-end-preserved c = (omega arith, omega arith, omega (arith, prefix_len-drop_yes (goes_on c.args.run) c.args.text.now c.loop-end.end 0 c.loop-end-test.true (sym c.if-goes_on.ensures)))
 
 pub returns-else-goes-on : goal.returns-else-goes-on
 returns-else-goes-on c = record { is = omega (arith, prefix_len-drop_no (goes_on c.args.run) c.args.text.now c.loop-end.end 0 c.loop-end-test.true (sym c.if-goes-on.ensures)); within = (omega arith, omega arith) }
