@@ -31,6 +31,6 @@ returns g c =
     let i : All-ints o l ns = subst (All-ints o l) whole c.loop-n.invariant.2 in
     record {
       is = is;
-      holds-each = subst (λ s. HoldsEach o s ns) (sym is) (spans-hold-each o l ns i);
+      holds_each = subst (λ s. HoldsEach o s ns) (sym is) (spans-hold-each o l ns i);
       least = subst (λ s. LeastOver o s ns) (sym is) (spans-are-least o l ns);
     }

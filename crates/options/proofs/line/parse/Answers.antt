@@ -10,11 +10,11 @@ loop-word-preserved c =
     sym (word-taken c.args.words.now c.loop-word.word-index p c.word-item.result c.loop-word-test.true c.word-item.is c.in_ok-progress.progress (ap (taken p) (sym c.as_bytes.ensures.value) ∙ sym c.in_ok-progress.ensures))
     ∙ c.loop-word.invariant
 
-pub returns-in-err-progress : goal.returns-in-err-progress
-returns-in-err-progress c =
+pub returns-in_err-progress : goal.returns-in_err-progress
+returns-in_err-progress c =
     let p = c.loop-word.progress in
-    let e = err_from_is_err_and c.from-residual.result c.from-residual.ensures.1 in
-    rw (e.1, e.2) (sym (word-refused c.args.words.now c.loop-word.word-index p c.word-item.result c.loop-word-test.true c.word-item.is c.in-err-progress.field-0.0 (ap (taken p) (sym c.as-bytes.ensures.value) ∙ sym c.in-err-progress.ensures))
+    let e = err_from_is_err_and c.from_residual.result c.from_residual.ensures.1 in
+    rw (e.1, e.2) (sym (word-refused c.args.words.now c.loop-word.word-index p c.word-item.result c.loop-word-test.true c.word-item.is c.in_err-progress.field-0.0 (ap (taken p) (sym c.as_bytes.ensures.value) ∙ sym c.in_err-progress.ensures))
     ∙ c.loop-word.invariant)
 
 pub returns : goal.returns

@@ -3,8 +3,8 @@ use Rattle.words.proofs.Blanks.{outside-blank, outside-opens, outside-stops, out
 use Rattle.words.proofs.scan.blanks_end.Goals as goal
 use Rattle.words.proofs.scan.blanks_end.Goals.{else-place-text-via-then-place-text+else-opens_comment, else-place-text-via-else-place-text}
 
-pub loop-place-preserved-then-is-blank : goal.loop-place-preserved-then-is-blank
-loop-place-preserved-then-is-blank c = (omega arith, omega arith, sym (outside-blank _ _ c.loop-place-test.true (search rules)) ∙ c.loop-place.invariant.2)
+pub loop-place-preserved-then-is_blank : goal.loop-place-preserved-then-is_blank
+loop-place-preserved-then-is_blank c = (omega arith, omega arith, sym (outside-blank _ _ c.loop-place-test.true (search rules)) ∙ c.loop-place.invariant.2)
 
 pub returns-in-None : goal.returns-in-None
 returns-in-None c = record {
