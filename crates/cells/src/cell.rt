@@ -18,14 +18,14 @@ pub struct Cell<D> {
 impl<D: Domain> Cell<D> {
     // The cell that allows nothing.
     pub fn nothing() -> Cell<D>
-        ensures { result ≡ nothing ops }
+        ensures { result ≡ nothing D.ops }
     {
         Cell::of_range(1, 0)
     }
 
     // The cell that allows both truths.
     pub fn either_truth() -> Cell<D>
-        ensures { result ≡ either_truth ops }
+        ensures { result ≡ either_truth D.ops }
     {
         Cell {
             unset: false,
@@ -37,7 +37,7 @@ impl<D: Domain> Cell<D> {
 
     // The cell that allows the numbers from low to high.
     pub fn of_range(low: Int, high: Int) -> Cell<D>
-        ensures { result ≡ of_range ops low high }
+        ensures { result ≡ of_range D.ops low high }
     {
         Cell {
             unset: false,
@@ -49,7 +49,7 @@ impl<D: Domain> Cell<D> {
 
     // The cell that allows one value.
     pub fn of_value(value: Value) -> Cell<D>
-        ensures { result ≡ of_value ops value }
+        ensures { result ≡ of_value D.ops value }
     {
         match value {
             Value::Unset => Cell {
@@ -70,7 +70,7 @@ impl<D: Domain> Cell<D> {
 
     // Whether the value is allowed.
     pub fn covers(self, value: Value) -> bool
-        ensures { result ≡ covers ops self value }
+        ensures { result ≡ covers D.ops self value }
     {
         match value {
             Value::Unset => self.unset,
@@ -87,7 +87,7 @@ impl<D: Domain> Cell<D> {
 
     // Whether all that this cell allows, the other surely does.
     pub fn within(self, other: Cell<D>) -> bool
-        ensures { result ≡ cell_within ops self other }
+        ensures { result ≡ cell_within D.ops self other }
     {
         (!self.unset | other.unset)
             & (!self.can_be_false | other.can_be_false)
@@ -97,7 +97,7 @@ impl<D: Domain> Cell<D> {
 
     // The least cell that both are within.
     pub fn join(self, other: Cell<D>) -> Cell<D>
-        ensures { result ≡ joined ops self other }
+        ensures { result ≡ joined D.ops self other }
     {
         Cell {
             unset: self.unset | other.unset,
@@ -109,7 +109,7 @@ impl<D: Domain> Cell<D> {
 
     // The same with the numbers' growth made to end soon.
     pub fn widen(self, other: Cell<D>) -> Cell<D>
-        ensures { result ≡ widened ops self other }
+        ensures { result ≡ widened D.ops self other }
     {
         Cell {
             unset: self.unset | other.unset,
@@ -121,14 +121,14 @@ impl<D: Domain> Cell<D> {
 
     // Whether the cell surely allows nothing.
     pub fn is_vacant(self) -> bool
-        ensures { result ≡ is_vacant ops self }
+        ensures { result ≡ is_vacant D.ops self }
     {
         !self.unset & !self.can_be_false & !self.can_be_true & self.numbers.is_empty()
     }
 
     // Whether a value of the sort may be allowed.
     pub fn has(self, sort: Sort) -> bool
-        ensures { result ≡ has ops self sort }
+        ensures { result ≡ has D.ops self sort }
     {
         match sort {
             Sort::Unset => self.unset,
@@ -139,7 +139,7 @@ impl<D: Domain> Cell<D> {
 
     // The cell with only those parts that are to be kept.
     pub fn only(self, unset: bool, truths: bool, numbers: bool) -> Cell<D>
-        ensures { result ≡ only ops self unset truths numbers }
+        ensures { result ≡ only D.ops self unset truths numbers }
     {
         Cell {
             unset: self.unset & unset,

@@ -19,72 +19,72 @@ pub trait Domain: Sized + Copy {
 
     // The INTs from `low` to `high`, none if `low` is above `high`.
     fn span(low: Int, high: Int) -> Self
-        ensures { result ≡ Ops.span low high };
+        ensures { result ≡ ops.span low high };
 
     // Whether `n` is in the set.
     fn contains(self, n: Int) -> bool
-        ensures { result ≡ Ops.contains self n };
+        ensures { result ≡ ops.contains self n };
 
     // Whether `other` surely has all that this set has.
     fn within(self, other: Self) -> bool
-        ensures { result ≡ Ops.within self other };
+        ensures { result ≡ ops.within self other };
 
     // Whether the set surely has nothing.
     fn is_empty(self) -> bool
-        ensures { result ≡ Ops.is_empty self };
+        ensures { result ≡ ops.is_empty self };
 
     // The sums inside INT of one number from each side.
     fn add(self, other: Self) -> Self
-        ensures { result ≡ Ops.add self other };
+        ensures { result ≡ ops.add self other };
 
     // The differences inside INT.
     fn sub(self, other: Self) -> Self
-        ensures { result ≡ Ops.sub self other };
+        ensures { result ≡ ops.sub self other };
 
     // The products inside INT.
     fn mul(self, other: Self) -> Self
-        ensures { result ≡ Ops.mul self other };
+        ensures { result ≡ ops.mul self other };
 
     // The quotients inside INT, without their fractions; a divisor 0 gives none.
     fn div(self, other: Self) -> Self
-        ensures { result ≡ Ops.div self other };
+        ensures { result ≡ ops.div self other };
 
     // Whether a sum can leave INT.
     fn add_overflows(self, other: Self) -> bool
-        ensures { result ≡ Ops.add_overflows self other };
+        ensures { result ≡ ops.add_overflows self other };
 
     // Whether a difference can leave INT.
     fn sub_overflows(self, other: Self) -> bool
-        ensures { result ≡ Ops.sub_overflows self other };
+        ensures { result ≡ ops.sub_overflows self other };
 
     // Whether a product can leave INT.
     fn mul_overflows(self, other: Self) -> bool
-        ensures { result ≡ Ops.mul_overflows self other };
+        ensures { result ≡ ops.mul_overflows self other };
 
     // What `a < b` can be for a number `a` from this side and `b` from the other.
     fn less(self, other: Self) -> Truth
-        ensures { result ≡ Ops.less self other };
+        ensures { result ≡ ops.less self other };
 
     // What `a == b` can be.
     fn equal(self, other: Self) -> Truth
-        ensures { result ≡ Ops.equal self other };
+        ensures { result ≡ ops.equal self other };
 
     // The least set that both sides are within.
     fn join(self, other: Self) -> Self
-        ensures { result ≡ Ops.join self other };
+        ensures { result ≡ ops.join self other };
 
     // From an old set and its join with a newer one, a set that the join is within, so large that growth soon ends.
     fn widen(self, joined: Self) -> Self
-        ensures { result ≡ Ops.widen self joined };
+        ensures { result ≡ ops.widen self joined };
 
-    ghost lawful: { Lawful Ops };
+    ghost lawful: { Lawful ops };
 }
 
 // The join of the one-number spans of `numbers`; the span from 1 to 0 where there is none.
 pub fn spanned<D: Domain>(numbers: &[Int]) -> D
-    ensures is { result ≡ joined_spans Ops numbers.now }
-    ensures holds_each { HoldsEach Ops result numbers.now }
-    ensures least { LeastOver Ops result numbers.now }
+    ensures is { result ≡ joined_spans D.ops numbers.now }
+    ensures holds_each { HoldsEach D.ops result numbers.now }
+    ensures least { LeastOver D.ops result numbers.now }
 {
     let mut set = D::span(1, 0);
     for n in numbers {

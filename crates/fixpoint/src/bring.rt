@@ -20,7 +20,7 @@ use transfer::rows::start_cell;
 
 // The cell at an index of a row that has a new current result and a new cell at another index.
 fn changed_at<D: Domain>(cr: Cell<D>, at: usize, cell: Cell<D>, i: usize, own: Cell<D>) -> Cell<D>
-    ensures { result ≡ changed_at ops cr at cell i own }
+    ensures { result ≡ changed_at D.ops cr at cell i own }
 {
     if i == 0 {
         cr
@@ -44,8 +44,8 @@ fn bring_changed<D: Domain>(
 ) -> bool
     requires from { from * width + width ≤ length cells.old }
     requires to { to * width + width ≤ length cells.old }
-    ensures cells { cells.new ≡ (grown ops widening cells.old false (to * width) (changed_over ops (row_at width cells.old from) cr at cell)).cells }
-    ensures changed { result ≡ (grown ops widening cells.old false (to * width) (changed_over ops (row_at width cells.old from) cr at cell)).changed }
+    ensures cells { cells.new ≡ (grown D.ops widening cells.old false (to * width) (changed_over D.ops (row_at width cells.old from) cr at cell)).cells }
+    ensures changed { result ≡ (grown D.ops widening cells.old false (to * width) (changed_over D.ops (row_at width cells.old from) cr at cell)).changed }
 {
     let source = from * width;
     let target = to * width;
@@ -63,7 +63,7 @@ fn bring_changed<D: Domain>(
 
 // The cell at an index of the row that a return leaves.
 fn restarted_at<D: Domain>(variables: &[Variable], i: usize, own: Cell<D>) -> Cell<D>
-    ensures { result ≡ restarted_at ops variables.now i own }
+    ensures { result ≡ restarted_at D.ops variables.now i own }
 {
     if i == 0 {
         Cell::of_value(Value::Unset)
@@ -83,8 +83,8 @@ fn bring_restarted<D: Domain>(
     requires few { length variables.now ≤ 64 }
     requires from { from * width_of variables.now + width_of variables.now ≤ length cells.old }
     requires to { to * width_of variables.now + width_of variables.now ≤ length cells.old }
-    ensures cells { cells.new ≡ (grown ops widening cells.old false (to * width_of variables.now) (return_row ops variables.now (row_at (width_of variables.now) cells.old from))).cells }
-    ensures changed { result ≡ (grown ops widening cells.old false (to * width_of variables.now) (return_row ops variables.now (row_at (width_of variables.now) cells.old from))).changed }
+    ensures cells { cells.new ≡ (grown D.ops widening cells.old false (to * width_of variables.now) (return_row D.ops variables.now (row_at (width_of variables.now) cells.old from))).cells }
+    ensures changed { result ≡ (grown D.ops widening cells.old false (to * width_of variables.now) (return_row D.ops variables.now (row_at (width_of variables.now) cells.old from))).changed }
 {
     let width = variables.len() + 1;
     let source = from * width;
@@ -110,8 +110,8 @@ pub(crate) fn bring_carried<D: Domain>(
     requires few { length variables.now ≤ 64 }
     requires from { from * width_of variables.now + width_of variables.now ≤ length cells.old }
     requires to { to * width_of variables.now + width_of variables.now ≤ length cells.old }
-    ensures cells { cells.new ≡ (grown ops widening cells.old false (to * width_of variables.now) (row_of ops variables.now (row_at (width_of variables.now) cells.old from) carried)).cells }
-    ensures changed { result ≡ (grown ops widening cells.old false (to * width_of variables.now) (row_of ops variables.now (row_at (width_of variables.now) cells.old from) carried)).changed }
+    ensures cells { cells.new ≡ (grown D.ops widening cells.old false (to * width_of variables.now) (row_of D.ops variables.now (row_at (width_of variables.now) cells.old from) carried)).cells }
+    ensures changed { result ≡ (grown D.ops widening cells.old false (to * width_of variables.now) (row_of D.ops variables.now (row_at (width_of variables.now) cells.old from) carried)).changed }
 {
     if restarts(carried.change) {
         return bring_restarted(variables, cells, from, to, widening);
@@ -130,8 +130,8 @@ fn bring_start_cells<D: Domain>(
 ) -> bool
     requires few { length variables.now ≤ 64 }
     requires to { width_of variables.now ≤ length cells.old }
-    ensures cells { cells.new ≡ (grown ops widening cells.old false 0 (start_row ops variables.now)).cells }
-    ensures changed { result ≡ (grown ops widening cells.old false 0 (start_row ops variables.now)).changed }
+    ensures cells { cells.new ≡ (grown D.ops widening cells.old false 0 (start_row D.ops variables.now)).cells }
+    ensures changed { result ≡ (grown D.ops widening cells.old false 0 (start_row D.ops variables.now)).changed }
 {
     let mut changed = false;
     for i in 0..variables.len() + 1 {
@@ -150,8 +150,8 @@ pub(crate) fn bring_start<D: Domain>(
 ) -> bool
     requires few { length variables.now ≤ 64 }
     requires to { width_of variables.now ≤ length cells.old }
-    ensures cells { cells.new ≡ (brought ops widening variables.now 0 (start_row ops variables.now) cells.old).cells }
-    ensures changed { result ≡ (brought ops widening variables.now 0 (start_row ops variables.now) cells.old).changed }
+    ensures cells { cells.new ≡ (brought D.ops widening variables.now 0 (start_row D.ops variables.now) cells.old).cells }
+    ensures changed { result ≡ (brought D.ops widening variables.now 0 (start_row D.ops variables.now) cells.old).changed }
 {
     if is_start_unreachable::<D>(variables) {
         false

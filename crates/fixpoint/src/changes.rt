@@ -11,7 +11,7 @@ use transfer::carry::{Carried, Change, is_carried_unreachable};
 
 // Whether every input is given a value anew.
 pub(crate) fn restarts<D: Domain>(change: Change<D>) -> bool
-    ensures { result ≡ gives_inputs ops change }
+    ensures { result ≡ gives_inputs D.ops change }
 {
     match change {
         Change::Inputs => true,
@@ -21,7 +21,7 @@ pub(crate) fn restarts<D: Domain>(change: Change<D>) -> bool
 
 // The index in its row of the variable that is new; that of the current result where none is.
 pub(crate) fn new_at<D: Domain>(change: Change<D>) -> usize
-    ensures { result ≡ new_at ops change }
+    ensures { result ≡ new_at D.ops change }
 {
     match change {
         Change::Variable(index, _) => { if index < usize::MAX { index + 1 } else { index } }
@@ -31,7 +31,7 @@ pub(crate) fn new_at<D: Domain>(change: Change<D>) -> usize
 
 // The cell of the variable that is new; that of the current result where none is.
 pub(crate) fn new_cell<D: Domain>(cr: Cell<D>, change: Change<D>) -> Cell<D>
-    ensures { result ≡ new_cell ops cr change }
+    ensures { result ≡ new_cell D.ops cr change }
 {
     match change {
         Change::Variable(_, cell) => cell,
@@ -46,8 +46,8 @@ pub(crate) fn is_new_unreachable<D: Domain>(
     row: &[Cell<D>],
 ) -> bool
     requires some { 0 < length row.now }
-    requires reached { is_unreachable ops row.now ≡ false }
-    ensures { result ≡ is_unreachable ops (row_of ops variables.now row.now carried) }
+    requires reached { is_unreachable D.ops row.now ≡ false }
+    ensures { result ≡ is_unreachable D.ops (row_of D.ops variables.now row.now carried) }
 {
     if restarts(carried.change) {
         return is_carried_unreachable(carried, variables, row);

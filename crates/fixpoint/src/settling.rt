@@ -24,8 +24,8 @@ fn settle_cells<D: Domain>(
 ) -> Result<u16, SettleFault>
     requires formed { Formed variables.now statements.now }
     requires size { length cells.old ≡ length statements.now * width_of variables.now }
-    ensures cells { cells.new ≡ (settled_from (swept ops (record { variables = variables.entry.now; statements = statements.now })) 0 sweeps cells.old).cells }
-    ensures answer { result ≡ (settled_from (swept ops (record { variables = variables.entry.now; statements = statements.now })) 0 sweeps cells.old).answer }
+    ensures cells { cells.new ≡ (settled_from (swept D.ops (record { variables = variables.entry.now; statements = statements.now })) 0 sweeps cells.old).cells }
+    ensures answer { result ≡ (settled_from (swept D.ops (record { variables = variables.entry.now; statements = statements.now })) 0 sweeps cells.old).answer }
 {
     for done in 0..sweeps {
         if !sweep(variables, statements, cells, widens(done + 1)) {
@@ -41,9 +41,9 @@ pub fn settle<D: Domain>(
     cells: &mut [Cell<D>],
     sweeps: u16,
 ) -> Result<u16, SettleFault>
-    ensures cells { cells.new ≡ (settled_in ops (code program.now) sweeps cells.old).cells }
-    ensures answer { result ≡ (settled_in ops (code program.now) sweeps cells.old).answer }
-    ensures settled_tables_pass { (n : ℕ) → result ≡ Ok n → Passes ops (code program.now) cells.new }
+    ensures cells { cells.new ≡ (settled_in D.ops (code program.now) sweeps cells.old).cells }
+    ensures answer { result ≡ (settled_in D.ops (code program.now) sweeps cells.old).answer }
+    ensures settled_tables_pass { (n : ℕ) → result ≡ Ok n → Passes D.ops (code program.now) cells.new }
 {
     let variables = program.variables();
     let statements = program.statements();

@@ -35,11 +35,11 @@ fn bring_on<D: Domain>(
 ) -> bool
     requires few { length variables.now ≤ 64 }
     requires short { number < 1024 }
-    requires reached { is_unreachable ops (row_at (width_of variables.now) cells.old number) ≡ false }
+    requires reached { is_unreachable D.ops (row_at (width_of variables.now) cells.old number) ≡ false }
     requires from { number * width_of variables.now + width_of variables.now ≤ length cells.old }
-    requires to { (next : List (CellOf D)) → carried_row ops variables.now (row_at (width_of variables.now) cells.old number) operation edge ≡ Some next → target_of number operation edge * width_of variables.now + width_of variables.now ≤ length cells.old }
-    ensures cells { cells.new ≡ (brought_on ops widening variables.now number operation edge cells.old).cells }
-    ensures changed { result ≡ (brought_on ops widening variables.now number operation edge cells.old).changed }
+    requires to { (next : List (CellOf D)) → carried_row D.ops variables.now (row_at (width_of variables.now) cells.old number) operation edge ≡ Some next → target_of number operation edge * width_of variables.now + width_of variables.now ≤ length cells.old }
+    ensures cells { cells.new ≡ (brought_on D.ops widening variables.now number operation edge cells.old).cells }
+    ensures changed { result ≡ (brought_on D.ops widening variables.now number operation edge cells.old).changed }
 {
     let row = row_at(cells, variables.len() + 1, number);
     match carry(variables, row, operation, edge) {
@@ -66,8 +66,8 @@ fn bring_from<D: Domain>(
     requires formed { Formed variables.now statements.now }
     requires size { length cells.old ≡ length statements.now * width_of variables.now }
     requires inside { number < length statements.now }
-    ensures cells { cells.new ≡ (brought_from ops widening variables.now number (operation_at statements.now number) cells.old).cells }
-    ensures changed { result ≡ (brought_from ops widening variables.now number (operation_at statements.now number) cells.old).changed }
+    ensures cells { cells.new ≡ (brought_from D.ops widening variables.now number (operation_at statements.now number) cells.old).cells }
+    ensures changed { result ≡ (brought_from D.ops widening variables.now number (operation_at statements.now number) cells.old).changed }
 {
     if is_unreachable(row_at(cells, variables.len() + 1, number)) {
         return false;
@@ -87,8 +87,8 @@ pub(crate) fn sweep<D: Domain>(
 ) -> bool
     requires formed { Formed variables.now statements.now }
     requires size { length cells.old ≡ length statements.now * width_of variables.now }
-    ensures cells { cells.new ≡ (swept_with ops widening variables.now statements.now cells.old).cells }
-    ensures changed { result ≡ (swept_with ops widening variables.now statements.now cells.old).changed }
+    ensures cells { cells.new ≡ (swept_with D.ops widening variables.now statements.now cells.old).cells }
+    ensures changed { result ≡ (swept_with D.ops widening variables.now statements.now cells.old).changed }
 {
     if statements.len() == 0 {
         return false;

@@ -16,7 +16,7 @@ pub(crate) fn shown_if(on: bool, text: &'static str, other: &'static str) -> &'s
 
 // A cell that allows something.
 fn parts_text<D: Notation>(heap: Global, cell: Cell<D>) -> Result<String, AllocError>
-    ensures { IfOk result (λ s. string_bytes s ≡ parts_text written cell) }
+    ensures { IfOk result (λ s. string_bytes s ≡ parts_text D.written cell) }
 {
     let mut out = String::from_str(heap, shown_if(cell.unset, "u", ""))?;
     out.push_str(shown_if(cell.can_be_false, "f", ""))?;
@@ -28,7 +28,7 @@ fn parts_text<D: Notation>(heap: Global, cell: Cell<D>) -> Result<String, AllocE
 
 // The text of a cell, a full stop where it is vacant.
 pub fn cell_text<D: Notation>(heap: Global, cell: Cell<D>) -> Result<String, AllocError>
-    ensures { IfOk result (λ s. string_bytes s ≡ cell_text D.Domain.ops written cell) }
+    ensures { IfOk result (λ s. string_bytes s ≡ cell_text D.Domain.ops D.written cell) }
 {
     if cell.is_vacant() {
         String::from_str(heap, ".")
@@ -56,7 +56,7 @@ fn past(bytes: &[u8], letter: u8) -> &[u8]
 
 // The set of a cell; none behind a letter is the empty span.
 fn read_set<D: Notation>(lettered: bool, bytes: &[u8]) -> Option<D>
-    ensures { result ≡ read_set D.Domain.ops read_as lettered bytes.now }
+    ensures { result ≡ read_set D.Domain.ops D.read_as lettered bytes.now }
 {
     if bytes.len() > 0 {
         D::read(bytes)
@@ -87,7 +87,7 @@ fn cell_of<D: Notation>(
 }
 
 fn read_parts<D: Notation>(bytes: &[u8]) -> Option<Cell<D>>
-    ensures { result ≡ read_parts D.Domain.ops read_as bytes.now }
+    ensures { result ≡ read_parts D.Domain.ops D.read_as bytes.now }
 {
     let unset = begins_with(bytes, b'u');
     let bytes = past(bytes, b'u');
@@ -101,7 +101,7 @@ fn read_parts<D: Notation>(bytes: &[u8]) -> Option<Cell<D>>
 
 // The cell that the bytes write.
 pub fn read_cell<D: Notation>(bytes: &[u8]) -> Option<Cell<D>>
-    ensures { result ≡ read_cell D.Domain.ops read_as bytes.now }
+    ensures { result ≡ read_cell D.Domain.ops D.read_as bytes.now }
 {
     if same(bytes, b".") {
         Some(Cell::nothing())

@@ -21,7 +21,7 @@ fn line_head(heap: Global, number: usize, marks: Marks) -> Result<String, AllocE
 
 // Appends a cell, after a blank.
 fn push_cell<D: Notation>(heap: Global, out: &mut String, cell: Cell<D>) -> Result<(), AllocError>
-    ensures { OnOk result (string_bytes out.new ≡ with_cell D.Domain.ops written (string_bytes out.old) cell) }
+    ensures { OnOk result (string_bytes out.new ≡ with_cell D.Domain.ops D.written (string_bytes out.old) cell) }
 {
     let text = cell_text(heap, cell)?;
     out.push_str(" ")?;
@@ -35,7 +35,7 @@ pub fn sheet_line<D: Notation>(
     marks: Marks,
     row: &[Cell<D>],
 ) -> Result<String, AllocError>
-    ensures { IfOk result (λ s. string_bytes s ≡ sheet_line D.Domain.ops written number marks row.now) }
+    ensures { IfOk result (λ s. string_bytes s ≡ sheet_line D.Domain.ops D.written number marks row.now) }
 {
     let mut out = line_head(heap, number, marks)?;
     for cell in row {

@@ -18,7 +18,7 @@ pub(crate) fn start(controller: &mut Controller, numbers: &[i32]) -> Line
 }
 
 pub(crate) fn step<D: Domain>(controller: &mut Controller, cells: &[Cell<D>]) -> Line
-    ensures { ToldAs (step_told ops (code_of controller.old) cells.now (machine controller.old)) controller.old controller.new result }
+    ensures { ToldAs (step_told D.ops (code_of controller.old) cells.now (machine controller.old)) controller.old controller.new result }
 {
     let answer = controller.step(cells);
     line_for(answer, standing(controller))
@@ -33,7 +33,7 @@ pub(crate) fn restart(controller: &mut Controller) -> Line
 
 // Takes so many steps, or fewer where the controller runs no more or a step is refused.
 fn take_steps<D: Domain>(controller: &mut Controller, cells: &[Cell<D>], most: u32) -> Line
-    ensures { ToldAs (steps_told ops (code_of controller.old) cells.now most (machine controller.old)) controller.old controller.new result }
+    ensures { ToldAs (steps_told D.ops (code_of controller.old) cells.now most (machine controller.old)) controller.old controller.new result }
 {
     let mut left = most;
     while left > 0 {
@@ -55,7 +55,7 @@ pub(crate) fn scan<D: Domain>(
     cells: &[Cell<D>],
     numbers: &[i32],
 ) -> Line
-    ensures { ToldAs (scan_told ops (code_of controller.old) cells.now numbers.now (machine controller.old)) controller.old controller.new result }
+    ensures { ToldAs (scan_told D.ops (code_of controller.old) cells.now numbers.now (machine controller.old)) controller.old controller.new result }
 {
     match controller.start(numbers) {
         Ok(()) => take_steps(controller, cells, MOST_STEPS),

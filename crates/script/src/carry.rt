@@ -45,8 +45,8 @@ pub(crate) fn finish<D: Domain>(
     pending: Pending,
     numbers: &[i32],
 ) -> Result<(), AllocError>
-    ensures text { OnOk result (string_bytes out.new ≡ text_after (string_bytes out.old) (pending_told ops (code_of controller.old) cells.now pending numbers.now (machine controller.old))) }
-    ensures machine { machine controller.new ≡ machine_after (machine controller.old) (pending_told ops (code_of controller.old) cells.now pending numbers.now (machine controller.old)) }
+    ensures text { OnOk result (string_bytes out.new ≡ text_after (string_bytes out.old) (pending_told D.ops (code_of controller.old) cells.now pending numbers.now (machine controller.old))) }
+    ensures machine { machine controller.new ≡ machine_after (machine controller.old) (pending_told D.ops (code_of controller.old) cells.now pending numbers.now (machine controller.old)) }
     ensures code { code_of controller.new ≡ code_of controller.old }
 {
     match pending {
@@ -72,8 +72,8 @@ pub(crate) fn carry_out<D: Domain>(
     count: usize,
     order: Order,
 ) -> Result<(), AllocError>
-    ensures text { OnOk result (string_bytes out.new ≡ order_text ops (code_of controller.old) cells.now count order (machine controller.old) (string_bytes out.old)) }
-    ensures machine { machine controller.new ≡ order_machine ops (code_of controller.old) cells.now order (machine controller.old) }
+    ensures text { OnOk result (string_bytes out.new ≡ order_text D.ops (code_of controller.old) cells.now count order (machine controller.old) (string_bytes out.old)) }
+    ensures machine { machine controller.new ≡ order_machine D.ops (code_of controller.old) cells.now order (machine controller.old) }
     ensures code { code_of controller.new ≡ code_of controller.old }
 {
     match order {

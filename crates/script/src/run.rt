@@ -62,7 +62,7 @@ fn take_word<D: Domain>(
 ) -> Result<Flow, AllocError>
     requires { count ≡ output_count (code_of controller.old).variables }
     ensures flow { IfOk result (λ f. f ≡ flow_of pending place (seen word.entry)) }
-    ensures course { OnOk result (Goes (acted ops (code_of controller.old) cells.now pending (act_on pending (seen word.entry)) (course numbers.old.items (machine controller.old) (string_bytes out.old))) numbers.new.items (machine controller.new) (string_bytes out.new)) }
+    ensures course { OnOk result (Goes (acted D.ops (code_of controller.old) cells.now pending (act_on pending (seen word.entry)) (course numbers.old.items (machine controller.old) (string_bytes out.old))) numbers.new.items (machine controller.new) (string_bytes out.new)) }
     ensures code { code_of controller.new ≡ code_of controller.old }
 {
     match act_on(pending, word) {
@@ -96,8 +96,8 @@ fn take_words<D: Domain>(
 ) -> Result<Option<Refusal>, AllocError>
     requires { count ≡ output_count (code_of controller.old).variables }
     ensures refusal { IfOk result (λ x. x ≡ script_refusal text.now) }
-    ensures machine { OnOk result (machine controller.new ≡ (course_from ops (code_of controller.old) cells.now (length text.now) text.now 0 Ranges (course [] (machine controller.old) (string_bytes out.old))).machine) }
-    ensures text { OnOk result (string_bytes out.new ≡ (course_from ops (code_of controller.old) cells.now (length text.now) text.now 0 Ranges (course [] (machine controller.old) (string_bytes out.old))).text) }
+    ensures machine { OnOk result (machine controller.new ≡ (course_from D.ops (code_of controller.old) cells.now (length text.now) text.now 0 Ranges (course [] (machine controller.old) (string_bytes out.old))).machine) }
+    ensures text { OnOk result (string_bytes out.new ≡ (course_from D.ops (code_of controller.old) cells.now (length text.now) text.now 0 Ranges (course [] (machine controller.old) (string_bytes out.old))).text) }
 {
     let mut numbers = Vec::new(heap);
     let mut pending = Pending::Ranges;
@@ -171,7 +171,7 @@ pub fn run_calls<D: Domain>(
     text: &[u8],
 ) -> Result<Report, AllocError>
     ensures refusal { IfOk result (λ x. x.refusal ≡ script_refusal text.now) }
-    ensures output { IfOk result (λ x. string_bytes x.output ≡ script_text ops (code program.now) cells.now text.now) }
+    ensures output { IfOk result (λ x. string_bytes x.output ≡ script_text D.ops (code program.now) cells.now text.now) }
 {
     let mut controller = Controller::new(program);
     let mut output = String::new(heap);

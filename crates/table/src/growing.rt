@@ -8,7 +8,7 @@ use domain::Domain;
 
 // The join of two cells, or its widening.
 pub fn grow<D: Domain>(own: Cell<D>, given: Cell<D>, widening: bool) -> Cell<D>
-    ensures { result ≡ larger ops widening own given }
+    ensures { result ≡ larger D.ops widening own given }
 {
     if widening {
         own.widen(given)
@@ -19,8 +19,8 @@ pub fn grow<D: Domain>(own: Cell<D>, given: Cell<D>, widening: bool) -> Cell<D>
 
 // Brings a cell to its target, and says whether the target did not take it in as it was.
 pub fn take_in<D: Domain>(target: &mut Cell<D>, given: Cell<D>, widening: bool) -> bool
-    ensures cell { target.new ≡ taken_in ops widening target.old given }
-    ensures changed { result ≡ not (cell_within ops given target.old) }
+    ensures cell { target.new ≡ taken_in D.ops widening target.old given }
+    ensures changed { result ≡ not (cell_within D.ops given target.old) }
 {
     let own = *target;
     if given.within(own) {
@@ -37,8 +37,8 @@ pub fn take_in_at<D: Domain>(
     given: Cell<D>,
     widening: bool,
 ) -> bool
-    ensures cells { cells.new ≡ slice_set cells.old place (taken_in ops widening (slice_index_or cells.old place (nothing ops)) given) }
-    ensures changed { result ≡ not (cell_within ops given (slice_index_or cells.old place (nothing ops))) }
+    ensures cells { cells.new ≡ slice_set cells.old place (taken_in D.ops widening (slice_index_or cells.old place (nothing D.ops)) given) }
+    ensures changed { result ≡ not (cell_within D.ops given (slice_index_or cells.old place (nothing D.ops))) }
 {
     if place < cells.len() {
         take_in(&mut cells[place], given, widening)
@@ -55,8 +55,8 @@ pub fn take_in_row<D: Domain>(
     row: &[Cell<D>],
     widening: bool,
 ) -> bool
-    ensures cells { cells.new ≡ (with_row ops widening width cells.old index row.now).cells }
-    ensures changed { result ≡ (with_row ops widening width cells.old index row.now).changed }
+    ensures cells { cells.new ≡ (with_row D.ops widening width cells.old index row.now).cells }
+    ensures changed { result ≡ (with_row D.ops widening width cells.old index row.now).changed }
 {
     let start = index.saturating_mul(width);
     let mut changed = false;
@@ -87,7 +87,7 @@ pub fn put<D: Domain>(
 
 // Makes every cell allow nothing.
 pub fn clear<D: Domain>(cells: &mut [Cell<D>])
-    ensures { cells.new ≡ cleared ops (length cells.old) }
+    ensures { cells.new ≡ cleared D.ops (length cells.old) }
 {
     let nothing = Cell::nothing();
     for i in 0..cells.len() {

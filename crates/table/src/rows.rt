@@ -32,7 +32,7 @@ pub fn operation_at(statements: &[Statement], index: usize) -> Operation
 
 // The cell at an index of the start row, or one that allows nothing.
 pub fn start_row_cell<D: Domain>(variables: &[Variable], index: usize) -> Cell<D>
-    ensures { result ≡ slice_index_or (start_row ops variables.now) index (nothing ops) }
+    ensures { result ≡ slice_index_or (start_row D.ops variables.now) index (nothing D.ops) }
 {
     if index == 0 {
         Cell::of_value(Value::Unset)

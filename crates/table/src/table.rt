@@ -39,7 +39,7 @@ impl<'a, D: Domain> Table<'a, D> {
 
     // Makes every cell allow nothing.
     pub fn clear(&mut self)
-        ensures cells { self.new.cells.now ≡ cleared ops (length self.old.cells.now) }
+        ensures cells { self.new.cells.now ≡ cleared D.ops (length self.old.cells.now) }
         ensures width { self.new.width ≡ self.old.width }
         ensures lender { self.new.cells.ghost_name ≡ self.old.cells.ghost_name }
     {
@@ -48,8 +48,8 @@ impl<'a, D: Domain> Table<'a, D> {
 
     // Brings a row to the row of a statement, and says whether a cell there did not take in what came.
     pub fn take_in(&mut self, index: usize, row: &[Cell<D>], widening: bool) -> bool
-        ensures cells { self.new.cells.now ≡ (with_row ops widening self.old.width self.old.cells.now index row.now).cells }
-        ensures changed { result ≡ (with_row ops widening self.old.width self.old.cells.now index row.now).changed }
+        ensures cells { self.new.cells.now ≡ (with_row D.ops widening self.old.width self.old.cells.now index row.now).cells }
+        ensures changed { result ≡ (with_row D.ops widening self.old.width self.old.cells.now index row.now).changed }
         ensures width { self.new.width ≡ self.old.width }
         ensures lender { self.new.cells.ghost_name ≡ self.old.cells.ghost_name }
     {

@@ -11,7 +11,7 @@ use transfer::carry::{Carried, Change};
 
 // What comes to statement 0 from no statement.
 pub(crate) fn starting<D: Domain>() -> Carried<D>
-    ensures { result ≡ record { cr = of_value ops Unset; change = Inputs } }
+    ensures { result ≡ record { cr = of_value D.ops Unset; change = Inputs } }
 {
     Carried {
         cr: Cell::of_value(Value::Unset),

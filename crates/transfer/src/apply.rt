@@ -10,7 +10,7 @@ use syntax::operator::{Operator, Store};
 
 // A cell of truths.
 fn truths<D: Domain>(can_be_false: bool, can_be_true: bool) -> Cell<D>
-    ensures { result ≡ truths_of ops can_be_false can_be_true }
+    ensures { result ≡ truths_of D.ops can_be_false can_be_true }
 {
     Cell {
         unset: false,
@@ -22,7 +22,7 @@ fn truths<D: Domain>(can_be_false: bool, can_be_true: bool) -> Cell<D>
 
 // A cell of numbers.
 fn numbers_only<D: Domain>(numbers: D) -> Cell<D>
-    ensures { result ≡ numbers_only ops numbers }
+    ensures { result ≡ numbers_only D.ops numbers }
 {
     Cell {
         unset: false,
@@ -33,28 +33,28 @@ fn numbers_only<D: Domain>(numbers: D) -> Cell<D>
 }
 
 fn flagged_cell<D: Domain>(flags: Truth) -> Cell<D>
-    ensures { result ≡ flagged ops flags }
+    ensures { result ≡ flagged D.ops flags }
 {
     truths(flags.can_be_false, flags.can_be_true)
 }
 
 // The cell of the opposite truths.
 fn exchanged_cell<D: Domain>(flags: Truth) -> Cell<D>
-    ensures { result ≡ flagged ops (exchanged flags) }
+    ensures { result ≡ flagged D.ops (exchanged flags) }
 {
     truths(flags.can_be_true, flags.can_be_false)
 }
 
 // The opposites of a cell's truths.
 pub fn opposites<D: Domain>(cell: Cell<D>) -> Cell<D>
-    ensures { result ≡ opposites_of ops cell }
+    ensures { result ≡ opposites_of D.ops cell }
 {
     truths(cell.can_be_true, cell.can_be_false)
 }
 
 // Whether a logical operator gives TRUE for some allowed pair.
 fn gives_true<D: Domain>(operator: Operator, x: Cell<D>, y: Cell<D>) -> bool
-    ensures { result ≡ over_pairs ops (combined operator) x y }
+    ensures { result ≡ over_pairs D.ops (combined operator) x y }
 {
     (x.can_be_false & (y.can_be_false & combine(operator, false, false)))
         | ((x.can_be_false & (y.can_be_true & combine(operator, false, true)))
@@ -64,7 +64,7 @@ fn gives_true<D: Domain>(operator: Operator, x: Cell<D>, y: Cell<D>) -> bool
 
 // Whether it gives FALSE for some allowed pair.
 fn gives_false<D: Domain>(operator: Operator, x: Cell<D>, y: Cell<D>) -> bool
-    ensures { result ≡ over_pairs ops (λ a b. not (combined operator a b)) x y }
+    ensures { result ≡ over_pairs D.ops (λ a b. not (combined operator a b)) x y }
 {
     (x.can_be_false & (y.can_be_false & !combine(operator, false, false)))
         | ((x.can_be_false & (y.can_be_true & !combine(operator, false, true)))
@@ -73,14 +73,14 @@ fn gives_false<D: Domain>(operator: Operator, x: Cell<D>, y: Cell<D>) -> bool
 }
 
 fn logical<D: Domain>(operator: Operator, x: Cell<D>, y: Cell<D>) -> Cell<D>
-    ensures { result ≡ logical_of ops operator x y }
+    ensures { result ≡ logical_of D.ops operator x y }
 {
     truths(gives_false(operator, x, y), gives_true(operator, x, y))
 }
 
 // The cell of the current result after an operator, from what is kept of it and of the operand.
 pub fn transfer_cell<D: Domain>(operator: Operator, x: Cell<D>, y: Cell<D>) -> Cell<D>
-    ensures { result ≡ transferred ops operator x y }
+    ensures { result ≡ transferred D.ops operator x y }
 {
     match operator {
         Operator::Ld => y,
@@ -101,7 +101,7 @@ pub fn transfer_cell<D: Domain>(operator: Operator, x: Cell<D>, y: Cell<D>) -> C
 
 // The cell of a variable after a store of the kept current result, where `y` is what is kept of its own.
 pub fn stored_cell<D: Domain>(store: Store, x: Cell<D>, y: Cell<D>) -> Cell<D>
-    ensures { result ≡ stored_cell ops store x y }
+    ensures { result ≡ stored_cell D.ops store x y }
 {
     match store {
         Store::St => x,
@@ -119,7 +119,7 @@ pub fn stored_cell<D: Domain>(store: Store, x: Cell<D>, y: Cell<D>) -> Cell<D>
 
 // The current result on a conditional way on: only the truth that takes it.
 pub fn only_truth<D: Domain>(truth: bool, cell: Cell<D>) -> Cell<D>
-    ensures { result ≡ only_truth ops truth cell }
+    ensures { result ≡ only_truth D.ops truth cell }
 {
     if truth {
         truths(false, cell.can_be_true)

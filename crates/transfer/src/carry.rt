@@ -32,7 +32,7 @@ pub struct Carried<D> {
 }
 
 fn resulting<D: Domain>(cr: Cell<D>) -> Carried<D>
-    ensures { result ≡ resulting_in ops cr }
+    ensures { result ≡ resulting_in D.ops cr }
 {
     Carried {
         cr,
@@ -42,7 +42,7 @@ fn resulting<D: Domain>(cr: Cell<D>) -> Carried<D>
 
 // A jump leaves the current result only the truth that takes the way on.
 fn jump_change<D: Domain>(jump: Jump, edge: Edge, x: Cell<D>) -> Option<Carried<D>>
-    ensures { result ≡ jump_change ops jump edge x }
+    ensures { result ≡ jump_change D.ops jump edge x }
 {
     match jump {
         Jump::Jmp => match edge {
@@ -61,7 +61,7 @@ fn jump_change<D: Domain>(jump: Jump, edge: Edge, x: Cell<D>) -> Option<Carried<
 }
 
 fn fall_change<D: Domain>(edge: Edge, carried: Carried<D>) -> Option<Carried<D>>
-    ensures { result ≡ fall_change ops edge carried }
+    ensures { result ≡ fall_change D.ops edge carried }
 {
     match edge {
         Edge::Fall => Some(carried),
@@ -70,7 +70,7 @@ fn fall_change<D: Domain>(edge: Edge, carried: Carried<D>) -> Option<Carried<D>>
 }
 
 fn return_change<D: Domain>(edge: Edge) -> Option<Carried<D>>
-    ensures { result ≡ return_change ops edge }
+    ensures { result ≡ return_change D.ops edge }
 {
     match edge {
         Edge::Fall => None,
@@ -88,7 +88,7 @@ fn change_by<D: Domain>(
     operation: Operation,
     edge: Edge,
 ) -> Option<Carried<D>>
-    ensures { result ≡ change_by ops x y operation edge }
+    ensures { result ≡ change_by D.ops x y operation edge }
 {
     match operation {
         Operation::Return => return_change(edge),
@@ -116,7 +116,7 @@ pub fn carry<D: Domain>(
     operation: Operation,
     edge: Edge,
 ) -> Option<Carried<D>>
-    ensures { mapped (row_of ops variables.now row.now) result ≡ carried_row ops variables.now row.now operation edge }
+    ensures { mapped (row_of D.ops variables.now row.now) result ≡ carried_row D.ops variables.now row.now operation edge }
 {
     let x = left(variables, row, operation);
     let y = right(variables, row, operation);
@@ -129,7 +129,7 @@ pub fn carry<D: Domain>(
 
 // The cell at an index of a row with another current result.
 fn result_cell<D: Domain>(row: &[Cell<D>], cr: Cell<D>, index: usize) -> Cell<D>
-    ensures { result ≡ slice_index_or (with_result ops row.now cr) index (nothing ops) }
+    ensures { result ≡ slice_index_or (with_result D.ops row.now cr) index (nothing D.ops) }
 {
     if index == 0 {
         if row.len() == 0 { Cell::nothing() } else { cr }
@@ -146,7 +146,7 @@ fn changed_cell<D: Domain>(
     cell: Cell<D>,
     index: usize,
 ) -> Cell<D>
-    ensures { result ≡ slice_index_or (with_variable ops row.now cr variable cell) index (nothing ops) }
+    ensures { result ≡ slice_index_or (with_variable D.ops row.now cr variable cell) index (nothing D.ops) }
 {
     if index == 0 {
         result_cell(row, cr, index)
@@ -165,7 +165,7 @@ fn changed_cell<D: Domain>(
 
 // The cell of a variable when a scan starts anew.
 fn restart_cell<D: Domain>(variables: &[Variable], row: &[Cell<D>], index: usize) -> Cell<D>
-    ensures { result ≡ slice_index_or (restart_cells ops variables.now (drop 1 row.now)) index (nothing ops) }
+    ensures { result ≡ slice_index_or (restart_cells D.ops variables.now (drop 1 row.now)) index (nothing D.ops) }
 {
     if index < variables.len() {
         if index + 1 < row.len() {
@@ -180,7 +180,7 @@ fn restart_cell<D: Domain>(variables: &[Variable], row: &[Cell<D>], index: usize
 
 // The cell at an index of the row that a return leaves.
 fn return_cell<D: Domain>(variables: &[Variable], row: &[Cell<D>], index: usize) -> Cell<D>
-    ensures { result ≡ slice_index_or (return_row ops variables.now row.now) index (nothing ops) }
+    ensures { result ≡ slice_index_or (return_row D.ops variables.now row.now) index (nothing D.ops) }
 {
     if index == 0 {
         Cell::of_value(Value::Unset)
@@ -197,7 +197,7 @@ fn cell_after<D: Domain>(
     row: &[Cell<D>],
     index: usize,
 ) -> Cell<D>
-    ensures { result ≡ slice_index_or (changed_row ops variables.now row.now cr change) index (nothing ops) }
+    ensures { result ≡ slice_index_or (changed_row D.ops variables.now row.now cr change) index (nothing D.ops) }
 {
     match change {
         Change::Nothing => result_cell(row, cr, index),
@@ -213,14 +213,14 @@ pub fn carried_cell<D: Domain>(
     row: &[Cell<D>],
     index: usize,
 ) -> Cell<D>
-    ensures { result ≡ slice_index_or (row_of ops variables.now row.now carried) index (nothing ops) }
+    ensures { result ≡ slice_index_or (row_of D.ops variables.now row.now carried) index (nothing D.ops) }
 {
     cell_after(carried.change, carried.cr, variables, row, index)
 }
 
 // Whether every input is given a value anew.
 fn gives_inputs<D: Domain>(change: Change<D>) -> bool
-    ensures { result ≡ gives_inputs ops change }
+    ensures { result ≡ gives_inputs D.ops change }
 {
     match change {
         Change::Inputs => true,
@@ -234,7 +234,7 @@ fn is_changed_unreachable<D: Domain>(
     variables: &[Variable],
     row: &[Cell<D>],
 ) -> bool
-    ensures { length (row_of ops variables.now row.now carried) ≡ length row.now → result ≡ is_unreachable ops (row_of ops variables.now row.now carried) }
+    ensures { length (row_of D.ops variables.now row.now carried) ≡ length row.now → result ≡ is_unreachable D.ops (row_of D.ops variables.now row.now carried) }
 {
     for i in 0..row.len() {
         if carried_cell(carried, variables, row, i).is_vacant() {
@@ -246,7 +246,7 @@ fn is_changed_unreachable<D: Domain>(
 
 // Whether the row that a return leaves has a vacant cell; its current result is unset.
 fn is_return_unreachable<D: Domain>(variables: &[Variable], row: &[Cell<D>]) -> bool
-    ensures { result ≡ is_unreachable ops (return_row ops variables.now row.now) }
+    ensures { result ≡ is_unreachable D.ops (return_row D.ops variables.now row.now) }
 {
     for i in 0..variables.len() {
         if restart_cell(variables, row, i).is_vacant() {
@@ -262,7 +262,7 @@ pub fn is_carried_unreachable<D: Domain>(
     variables: &[Variable],
     row: &[Cell<D>],
 ) -> bool
-    ensures { result ≡ is_unreachable ops (row_of ops variables.now row.now carried) }
+    ensures { result ≡ is_unreachable D.ops (row_of D.ops variables.now row.now carried) }
 {
     if gives_inputs(carried.change) {
         is_return_unreachable(variables, row)

@@ -59,7 +59,7 @@ impl Marks {
 
 // Whether the operand has a part that is not accepted with a current result of the sort, where the current result has that part.
 fn refuses<D: Domain>(operation: Operation, left: Cell<D>, right: Cell<D>, sort: Sort) -> bool
-    ensures { result ≡ any_sort (λ b. has ops left sort && (has ops right b && not (accepted operation sort b))) }
+    ensures { result ≡ any_sort (λ b. has D.ops left sort && (has D.ops right b && not (accepted operation sort b))) }
 {
     (left.has(sort) & (right.has(Sort::Unset) & !accepts(operation, sort, Sort::Unset)))
         | ((left.has(sort) & (right.has(Sort::Bool) & !accepts(operation, sort, Sort::Bool)))
@@ -67,14 +67,14 @@ fn refuses<D: Domain>(operation: Operation, left: Cell<D>, right: Cell<D>, sort:
 }
 
 fn kind_mark<D: Domain>(operation: Operation, left: Cell<D>, right: Cell<D>) -> bool
-    ensures { result ≡ kind_mark ops operation left right }
+    ensures { result ≡ kind_mark D.ops operation left right }
 {
     refuses(operation, left, right, Sort::Unset)
         | (refuses(operation, left, right, Sort::Bool) | refuses(operation, left, right, Sort::Int))
 }
 
 fn zero_by<D: Domain>(operator: Operator, left: Cell<D>, right: Cell<D>) -> bool
-    ensures { result ≡ zero_by ops operator left right }
+    ensures { result ≡ zero_by D.ops operator left right }
 {
     match operator {
         Operator::Div => !left.numbers.is_empty() & right.numbers.contains(0),
@@ -83,7 +83,7 @@ fn zero_by<D: Domain>(operator: Operator, left: Cell<D>, right: Cell<D>) -> bool
 }
 
 fn zero_mark<D: Domain>(operation: Operation, left: Cell<D>, right: Cell<D>) -> bool
-    ensures { result ≡ zero_mark ops operation left right }
+    ensures { result ≡ zero_mark D.ops operation left right }
 {
     match operation {
         Operation::Apply(operator, _) => zero_by(operator, left, right),
@@ -92,7 +92,7 @@ fn zero_mark<D: Domain>(operation: Operation, left: Cell<D>, right: Cell<D>) -> 
 }
 
 fn overflow_by<D: Domain>(operator: Operator, left: Cell<D>, right: Cell<D>) -> bool
-    ensures { result ≡ overflow_by ops operator left right }
+    ensures { result ≡ overflow_by D.ops operator left right }
 {
     match operator {
         Operator::Add => left.numbers.add_overflows(right.numbers),
@@ -104,7 +104,7 @@ fn overflow_by<D: Domain>(operator: Operator, left: Cell<D>, right: Cell<D>) -> 
 }
 
 fn overflow_mark<D: Domain>(operation: Operation, left: Cell<D>, right: Cell<D>) -> bool
-    ensures { result ≡ overflow_mark ops operation left right }
+    ensures { result ≡ overflow_mark D.ops operation left right }
 {
     match operation {
         Operation::Apply(operator, _) => overflow_by(operator, left, right),
@@ -114,7 +114,7 @@ fn overflow_mark<D: Domain>(operation: Operation, left: Cell<D>, right: Cell<D>)
 
 // The marks of a row before a statement, by its cells as they are; N alone where the row is unreachable.
 pub fn marks_of<D: Domain>(variables: &[Variable], row: &[Cell<D>], operation: Operation) -> Marks
-    ensures { result ≡ marks_of ops variables.now row.now operation }
+    ensures { result ≡ marks_of D.ops variables.now row.now operation }
 {
     if is_unreachable(row) {
         Marks {

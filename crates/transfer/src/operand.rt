@@ -33,7 +33,7 @@ fn kind_value(variables: &[Variable], index: usize) -> Value
 
 // The cell of a variable, which stands after the current result's.
 fn variable_cell<D: Domain>(row: &[Cell<D>], index: usize) -> Cell<D>
-    ensures { result ≡ slice_index_or row.now (index + 1) (nothing ops) }
+    ensures { result ≡ slice_index_or row.now (index + 1) (nothing D.ops) }
 {
     if index < row.len() {
         cell_at(row, index + 1)
@@ -43,7 +43,7 @@ fn variable_cell<D: Domain>(row: &[Cell<D>], index: usize) -> Cell<D>
 }
 
 fn operand_cell<D: Domain>(row: &[Cell<D>], operand: Operand) -> Cell<D>
-    ensures { result ≡ operand_cell ops row.now operand }
+    ensures { result ≡ operand_cell D.ops row.now operand }
 {
     match operand {
         Operand::Constant(constant) => Cell::of_value(Value::of_constant(constant)),
@@ -58,7 +58,7 @@ fn stored_on<D: Domain>(
     store: Store,
     index: usize,
 ) -> Cell<D>
-    ensures { result ≡ stored_on_cell ops variables.now row.now store index }
+    ensures { result ≡ stored_on_cell D.ops variables.now row.now store index }
 {
     match store {
         Store::St | Store::Stn => Cell::of_value(kind_value(variables, index)),
@@ -68,7 +68,7 @@ fn stored_on<D: Domain>(
 
 // The operand of an operation; unset where it has none.
 pub fn operand<D: Domain>(variables: &[Variable], row: &[Cell<D>], operation: Operation) -> Cell<D>
-    ensures { result ≡ operand_in ops variables.now row.now operation }
+    ensures { result ≡ operand_in D.ops variables.now row.now operation }
 {
     match operation {
         Operation::Apply(_, operand) => operand_cell(row, operand),
@@ -79,7 +79,7 @@ pub fn operand<D: Domain>(variables: &[Variable], row: &[Cell<D>], operation: Op
 
 // Whether a current result of the sort is accepted with some part of the operand.
 fn keeps_left<D: Domain>(operation: Operation, right: Cell<D>, sort: Sort) -> bool
-    ensures { result ≡ left_kept ops operation right sort }
+    ensures { result ≡ left_kept D.ops operation right sort }
 {
     (right.has(Sort::Unset) & accepts(operation, sort, Sort::Unset))
         | ((right.has(Sort::Bool) & accepts(operation, sort, Sort::Bool))
@@ -88,7 +88,7 @@ fn keeps_left<D: Domain>(operation: Operation, right: Cell<D>, sort: Sort) -> bo
 
 // Whether an operand of the sort is accepted with some part of the current result.
 fn keeps_right<D: Domain>(operation: Operation, left: Cell<D>, sort: Sort) -> bool
-    ensures { result ≡ right_kept ops operation left sort }
+    ensures { result ≡ right_kept D.ops operation left sort }
 {
     (left.has(Sort::Unset) & accepts(operation, Sort::Unset, sort))
         | ((left.has(Sort::Bool) & accepts(operation, Sort::Bool, sort))
@@ -97,7 +97,7 @@ fn keeps_right<D: Domain>(operation: Operation, left: Cell<D>, sort: Sort) -> bo
 
 // The parts of a current result that are accepted with an operand.
 fn kept_left<D: Domain>(operation: Operation, left: Cell<D>, right: Cell<D>) -> Cell<D>
-    ensures { result ≡ kept_by ops (left_kept ops operation right) left }
+    ensures { result ≡ kept_by D.ops (left_kept D.ops operation right) left }
 {
     left.only(
         keeps_left(operation, right, Sort::Unset),
@@ -108,7 +108,7 @@ fn kept_left<D: Domain>(operation: Operation, left: Cell<D>, right: Cell<D>) -> 
 
 // The parts of an operand that are accepted with a current result.
 fn kept_right<D: Domain>(operation: Operation, left: Cell<D>, right: Cell<D>) -> Cell<D>
-    ensures { result ≡ kept_by ops (right_kept ops operation left) right }
+    ensures { result ≡ kept_by D.ops (right_kept D.ops operation left) right }
 {
     right.only(
         keeps_right(operation, left, Sort::Unset),
@@ -119,7 +119,7 @@ fn kept_right<D: Domain>(operation: Operation, left: Cell<D>, right: Cell<D>) ->
 
 // What is kept of the current result of a row.
 pub fn left<D: Domain>(variables: &[Variable], row: &[Cell<D>], operation: Operation) -> Cell<D>
-    ensures { result ≡ left_of ops variables.now row.now operation }
+    ensures { result ≡ left_of D.ops variables.now row.now operation }
 {
     kept_left(
         operation,
@@ -130,7 +130,7 @@ pub fn left<D: Domain>(variables: &[Variable], row: &[Cell<D>], operation: Opera
 
 // What is kept of the operand of a row.
 pub fn right<D: Domain>(variables: &[Variable], row: &[Cell<D>], operation: Operation) -> Cell<D>
-    ensures { result ≡ right_of ops variables.now row.now operation }
+    ensures { result ≡ right_of D.ops variables.now row.now operation }
 {
     kept_right(
         operation,

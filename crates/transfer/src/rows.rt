@@ -10,7 +10,7 @@ use syntax::record::{Class, Constant, Variable};
 
 // The cell at an index, or one that allows nothing.
 pub fn cell_at<D: Domain>(row: &[Cell<D>], index: usize) -> Cell<D>
-    ensures { result ≡ slice_index_or row.now index (nothing ops) }
+    ensures { result ≡ slice_index_or row.now index (nothing D.ops) }
 {
     if index < row.len() {
         row[index]
@@ -21,7 +21,7 @@ pub fn cell_at<D: Domain>(row: &[Cell<D>], index: usize) -> Cell<D>
 
 // Whether some cell of the row is vacant.
 pub fn is_unreachable<D: Domain>(row: &[Cell<D>]) -> bool
-    ensures { result ≡ is_unreachable ops row.now }
+    ensures { result ≡ is_unreachable D.ops row.now }
 {
     for i in 0..row.len() {
         if row[i].is_vacant() {
@@ -33,7 +33,7 @@ pub fn is_unreachable<D: Domain>(row: &[Cell<D>]) -> bool
 
 // What an input can be given: a BOOL either truth, an INT its range.
 fn given<D: Domain>(variable: Variable) -> Cell<D>
-    ensures { result ≡ given_to ops variable.declaration.initial variable }
+    ensures { result ≡ given_to D.ops variable.declaration.initial variable }
 {
     match variable.declaration().initial {
         Constant::Bool(_) => Cell::either_truth(),
@@ -43,7 +43,7 @@ fn given<D: Domain>(variable: Variable) -> Cell<D>
 
 // The cell of a variable when a scan starts: an input is given a value, the others keep their own.
 pub fn start_cell<D: Domain>(variable: Variable, own: Cell<D>) -> Cell<D>
-    ensures { result ≡ start_cell ops variable.declaration.class variable own }
+    ensures { result ≡ start_cell D.ops variable.declaration.class variable own }
 {
     match variable.declaration().class {
         Class::Input => given(variable),
@@ -53,7 +53,7 @@ pub fn start_cell<D: Domain>(variable: Variable, own: Cell<D>) -> Cell<D>
 
 // The cell of a variable before the first scan.
 pub fn initial_cell<D: Domain>(variable: Variable) -> Cell<D>
-    ensures { result ≡ initial_cell ops variable }
+    ensures { result ≡ initial_cell D.ops variable }
 {
     start_cell(
         variable,

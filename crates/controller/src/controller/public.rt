@@ -23,10 +23,10 @@ impl Controller<'_> {
 
     // Runs one statement beside a table, whether that passed the check or not, and counts what the table did not foresee.
     pub fn step<D: Domain>(&mut self, cells: &[Cell<D>]) -> Result<(), CallFault>
-        ensures reply { Replied (reply (code_of self.old) (to_step (sight_of ops (code_of self.old) cells.now (machine self.old))) (machine self.old)) self.old self.new result }
-        ensures runs { machine self.new ≡ after ops (code_of self.old) cells.now take_step (machine self.old) }
+        ensures reply { Replied (reply (code_of self.old) (to_step (sight_of D.ops (code_of self.old) cells.now (machine self.old))) (machine self.old)) self.old self.new result }
+        ensures runs { machine self.new ≡ after D.ops (code_of self.old) cells.now take_step (machine self.old) }
         ensures laws { StepLaws (machine self.old) (machine self.new) result }
-        ensures alike { RunsAlike ops (code_of self.old) }
+        ensures alike { RunsAlike D.ops (code_of self.old) }
     {
         let mut none = [0i32; 0];
         let sight = self.look(cells);

@@ -11,7 +11,7 @@ use transfer::marks::marks_of;
 
 impl Controller<'_> {
     pub(crate) fn look<D: Domain>(&self, cells: &[Cell<D>]) -> Sight
-        ensures { result ≡ sight_of ops (code_of self.now) cells.now (machine self.now) }
+        ensures { result ≡ sight_of D.ops (code_of self.now) cells.now (machine self.now) }
     {
         let row = row_at(cells, self.variables.len() + 1, self.at);
         Sight {

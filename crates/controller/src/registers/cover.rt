@@ -24,7 +24,7 @@ fn value_at(cr: Value, slots: &[Slot], index: usize) -> Value
 
 // Whether each cell covers its value.
 fn covers_row<D: Domain>(row: &[Cell<D>], cr: Value, slots: &[Slot]) -> bool
-    ensures { result ≡ covers_all ops row.now (cr ∷ values_in slots.now) }
+    ensures { result ≡ covers_all D.ops row.now (cr ∷ values_in slots.now) }
 {
     for i in 0..row.len() {
         if !row[i].covers(value_at(cr, slots, i)) {
@@ -37,7 +37,7 @@ fn covers_row<D: Domain>(row: &[Cell<D>], cr: Value, slots: &[Slot]) -> bool
 impl Registers {
     // Whether a row covers the current result and the values.
     pub(crate) fn is_covered<D: Domain>(&self, row: &[Cell<D>]) -> bool
-        ensures { result ≡ covers_all ops row.now ((held self.now).cr ∷ (held self.now).values) }
+        ensures { result ≡ covers_all D.ops row.now ((held self.now).cr ∷ (held self.now).values) }
     {
         covers_row(row, self.cr, &self.slots)
     }

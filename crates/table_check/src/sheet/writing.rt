@@ -13,7 +13,7 @@ use table::rows::row_at;
 impl<'c, 'p, D: Notation> Sheet<'c, 'p, D> {
     // The line of a statement, with the marks of its row as the check works them out.
     fn line(&self, heap: Global, index: usize) -> Result<String, AllocError>
-        ensures { IfOk result (λ s. string_bytes s ≡ line_of D.Domain.ops written (shown self.now) index) }
+        ensures { IfOk result (λ s. string_bytes s ≡ line_of D.Domain.ops D.written (shown self.now) index) }
     {
         let marks = marks_at(
             self.variables,
