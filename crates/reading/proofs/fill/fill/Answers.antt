@@ -16,7 +16,7 @@ as_read w r vs ss a f =
 
 pub returns : goal.returns
 returns c = record {
-  is = c.fill-any.ensures.is;
-  first-fault = subst (FirstFault c.args.text.now (length c.args.variables.now) (length c.args.statements.now)) (sym c.fill-any.ensures.is.answer) (reading-first c.args.text.now (length c.args.variables.now) (length c.args.statements.now));
-  filled = as_read _ c.fill-any.result c.fill-any.new.variables c.fill-any.new.statements c.fill-any.ensures.is (reading-filled c.args.text.now (length c.args.variables.now) (length c.args.statements.now));
+  is = c.fill_any.ensures.is;
+  first_fault = subst (FirstFault c.args.text.now (length c.args.variables.now) (length c.args.statements.now)) (sym c.fill_any.ensures.is.answer) (reading-first c.args.text.now (length c.args.variables.now) (length c.args.statements.now));
+  filled = as_read _ c.fill_any.result c.fill_any.new.variables c.fill_any.new.statements c.fill_any.ensures.is (reading-filled c.args.text.now (length c.args.variables.now) (length c.args.statements.now));
 }
