@@ -2,11 +2,11 @@ use Rattle.std.proofs.Common.{◌≡◌, ◌+◌, drop, sym, ap, ◌∙◌, subs
 use Rattle.program.specs.Model.{is_input, input_from}
 use Rattle.program.proofs.Positions.{input-found, input-counted, input-passed, input_none}
 use Rattle.program.proofs.inputs.input_at.Goals as goal
-use Rattle.program.proofs.inputs.input_at.Goals.{then-is-input+else-left-eq0, else-is-input}
+use Rattle.program.proofs.inputs.input_at.Goals.{then-is_input+else-left-eq0, else-is_input}
 
 pub returns-then-left-eq0 : goal.returns-then-left-eq0
 returns-then-left-eq0 c = record {
-  is = sym (input-found c.args.variables.now c.loop-i.i c.loop-i.left c.loop-i-test.true (ap (λ d. is_input d.class) (sym c.declaration.ensures) ∙ sym c.if-is-input.ensures) c.if-left-eq0.true) ∙ c.loop-i.invariant;
+  is = sym (input-found c.args.variables.now c.loop-i.i c.loop-i.left c.loop-i-test.true (ap (λ d. is_input d.class) (sym c.declaration.ensures) ∙ sym c.if-is_input.ensures) c.if-left-eq0.true) ∙ c.loop-i.invariant;
   within = c.loop-i-test.true;
 }
 
@@ -16,9 +16,9 @@ loop-i-preserved c =
     let i = c.loop-i.i in
     let k = c.loop-i.left in
     let class = ap (λ d. is_input d.class) (sym c.declaration.ensures) in
-    elim c.if-is-input.branch [
-      | then-is-input+else-left-eq0 w ↦ ap (input_from (i + 1) (drop (i + 1) vs)) w.left-is ∙ sym (input-counted vs i k c.loop-i-test.true (class ∙ sym w.if-is-input.ensures) w.if-left-eq0.false) ∙ c.loop-i.invariant
-      | else-is-input w ↦ ap (input_from (i + 1) (drop (i + 1) vs)) w.left-is ∙ sym (input-passed vs i k c.loop-i-test.true (class ∙ sym w.if-is-input.ensures)) ∙ c.loop-i.invariant
+    elim c.if-is_input.branch [
+      | then-is_input+else-left-eq0 w ↦ ap (input_from (i + 1) (drop (i + 1) vs)) w.left-is ∙ sym (input-counted vs i k c.loop-i-test.true (class ∙ sym w.if-is_input.ensures) w.if-left-eq0.false) ∙ c.loop-i.invariant
+      | else-is_input w ↦ ap (input_from (i + 1) (drop (i + 1) vs)) w.left-is ∙ sym (input-passed vs i k c.loop-i-test.true (class ∙ sym w.if-is_input.ensures)) ∙ c.loop-i.invariant
     ]
 
 pub returns : goal.returns
