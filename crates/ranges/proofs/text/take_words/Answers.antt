@@ -20,42 +20,42 @@ loop-place-init c = (
   refl,
 )
 
-pub returns-in-err-place : goal.returns-in-err-place
-returns-in-err-place c =
-    let p = err_from_is_err_and c.from-residual.result c.from-residual.ensures.1 in
-    let s = ap (λ t. next_at t c.loop-place.reader.place) (sym c.loop-place.invariant.0) ∙ sym c.in-err-place.ensures.is in
+pub returns-in_err-place : goal.returns-in_err-place
+returns-in_err-place c =
+    let p = err_from_is_err_and c.from_residual.result c.from_residual.ensures.1 in
+    let s = ap (λ t. next_at t c.loop-place.reader.place) (sym c.loop-place.invariant.0) ∙ sym c.in_err-place.ensures.is in
     rw (p.1, p.2) (record { is = set-as (unfit c.loop-place.invariant.1 _ s); variables = c.loop-place.invariant.2; statements = c.loop-place.invariant.3 })
 
-pub returns-in-err-awaiting : goal.returns-in-err-awaiting
-returns-in-err-awaiting c =
-    let p = err_from_is_err_and c.from-residual-in-err-awaiting.result c.from-residual-in-err-awaiting.ensures.1 in
-    let s = ap (λ t. next_at t c.loop-place.reader.place) (sym c.loop-place.invariant.0) ∙ sym (ap (λ o. answered (Ok o) c.next-word.new.self.place) (sym c.in-Some.is) ∙ c.in-ok-place.ensures.is) in
+pub returns-in_err-awaiting : goal.returns-in_err-awaiting
+returns-in_err-awaiting c =
+    let p = err_from_is_err_and c.from_residual-in_err-awaiting.result c.from_residual-in_err-awaiting.ensures.1 in
+    let s = ap (λ t. next_at t c.loop-place.reader.place) (sym c.loop-place.invariant.0) ∙ sym (ap (λ o. answered (Ok o) c.next_word.new.self.place) (sym c.in-Some.is) ∙ c.in_ok-place.ensures.is) in
     rw (p.1, p.2) (record {
-      is = set-as (refused c.loop-place.invariant.1 _ _ _ s _ _ c.take-word.ensures.is _ c.in-err-awaiting.was);
-      variables = c.take-word.ensures.variables ∙ c.loop-place.invariant.2;
-      statements = c.take-word.ensures.statements ∙ c.loop-place.invariant.3;
+      is = set-as (refused c.loop-place.invariant.1 _ _ _ s _ _ c.take_word.ensures.is _ c.in_err-awaiting.was);
+      variables = c.take_word.ensures.variables ∙ c.loop-place.invariant.2;
+      statements = c.take_word.ensures.statements ∙ c.loop-place.invariant.3;
     })
 
 pub loop-place-preserved : goal.loop-place-preserved
 loop-place-preserved c =
-    let s = ap (λ t. next_at t c.loop-place.reader.place) (sym c.loop-place.invariant.0) ∙ sym (ap (λ o. answered (Ok o) c.next-word.new.self.place) (sym c.in-Some.is) ∙ c.in-ok-place.ensures.is) in
-    let same = c.next-word.ensures.text ∙ c.loop-place.invariant.0 in
-    let on : c.loop-place.reader.place < c.next-word.new.self.place = MatchOption-at_some (Unit {0}) (λ _. c.loop-place.reader.place < c.next-word.new.self.place) (c.in-Some.place, c.in-Some.word) c.in-Some.is c.in-ok-place.ensures.on.1 in (
+    let s = ap (λ t. next_at t c.loop-place.reader.place) (sym c.loop-place.invariant.0) ∙ sym (ap (λ o. answered (Ok o) c.next_word.new.self.place) (sym c.in-Some.is) ∙ c.in_ok-place.ensures.is) in
+    let same = c.next_word.ensures.text ∙ c.loop-place.invariant.0 in
+    let on : c.loop-place.reader.place < c.next_word.new.self.place = MatchOption-at_some (Unit {0}) (λ _. c.loop-place.reader.place < c.next_word.new.self.place) (c.in-Some.place, c.in-Some.word) c.in-Some.is c.in_ok-place.ensures.on.1 in (
       same,
-      more c.loop-place.invariant.1 _ _ _ s _ _ c.take-word.ensures.is _ c.in-ok-awaiting.was on (omega (arith, c.next-word.new.self.within, ap length same)),
-      c.take-word.ensures.variables ∙ c.loop-place.invariant.2,
-      c.take-word.ensures.statements ∙ c.loop-place.invariant.3,
+      more c.loop-place.invariant.1 _ _ _ s _ _ c.take_word.ensures.is _ c.in_ok-awaiting.was on (omega (arith, c.next_word.new.self.within, ap length same)),
+      c.take_word.ensures.variables ∙ c.loop-place.invariant.2,
+      c.take_word.ensures.statements ∙ c.loop-place.invariant.3,
     )
 
 pub loop-place-smaller : goal.loop-place-smaller
 loop-place-smaller c =
-    let same = c.next-word.ensures.text ∙ c.loop-place.invariant.0 in
-    let on : c.loop-place.reader.place < c.next-word.new.self.place = MatchOption-at_some (Unit {0}) (λ _. c.loop-place.reader.place < c.next-word.new.self.place) (c.in-Some.place, c.in-Some.word) c.in-Some.is c.in-ok-place.ensures.on.1 in
-    omega (arith, on, c.next-word.new.self.within, ap length same)
+    let same = c.next_word.ensures.text ∙ c.loop-place.invariant.0 in
+    let on : c.loop-place.reader.place < c.next_word.new.self.place = MatchOption-at_some (Unit {0}) (λ _. c.loop-place.reader.place < c.next_word.new.self.place) (c.in-Some.place, c.in-Some.word) c.in-Some.is c.in_ok-place.ensures.on.1 in
+    omega (arith, on, c.next_word.new.self.within, ap length same)
 
 pub returns : goal.returns
 returns c =
-    let s = ap (λ t. next_at t c.loop-place.reader.place) (sym c.loop-place.invariant.0) ∙ sym (ap (λ o. answered (Ok o) c.next-word.new.self.place) (sym c.in-default.is) ∙ c.in-ok-place.ensures.is) in
+    let s = ap (λ t. next_at t c.loop-place.reader.place) (sym c.loop-place.invariant.0) ∙ sym (ap (λ o. answered (Ok o) c.next_word.new.self.place) (sym c.in_default.is) ∙ c.in_ok-place.ensures.is) in
     record {
       is = set-as (ap (λ r. outcome r (memory c.loop-place.program)) c.end.ensures ∙ text-ended c.loop-place.invariant.1 s);
       variables = c.loop-place.invariant.2;
