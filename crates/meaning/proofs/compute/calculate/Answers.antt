@@ -1,4 +1,4 @@
-use Rattle.std.proofs.Common.{◌≡◌, ◌+ℤ◌, ◌-ℤ◌, ◌*ℤ◌, sym, ap, ◌∙◌}
+use Rattle.std.proofs.Common.{◌+ℤ◌, ◌-ℤ◌, ◌*ℤ◌, sym, ap, ◌∙◌}
 use Rattle.numbers.proofs.Widening.{sums-fit, differences-fit, products-fit, passed_is}
 use Rattle.meaning.specs.Meaning.{sized, arithmetic}
 use Rattle.meaning.proofs.compute.calculate.Goals as goal
