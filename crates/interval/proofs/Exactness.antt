@@ -1,14 +1,14 @@
 -- The interval domain's answers are exact, by the numbers at the ends.
-use Rattle.std.proofs.Common.{◌≡◌, Bool, true, false, cond, not, ◌&&◌, ◌||◌, ◌⊎◌, ℤ, pos, ◌+ℤ◌, ◌-ℤ◌, ◌*ℤ◌, ◌≤ℤ◌, ◌<ℤ◌, sym, refl, ap, ◌∙◌, subst, inl, inr, ⊎_elim, arith}
+use Rattle.std.proofs.Common.{◌≡◌, Bool, true, false, cond, ◌&&◌, ℤ, ◌+ℤ◌, ◌-ℤ◌, ◌*ℤ◌, ◌≤ℤ◌, ◌<ℤ◌, sym, refl, ap, ◌∙◌, subst, ⊎_elim, arith}
 use lib.Signed.{lt_z, le_z, ≤ℤ_refl}
 use Rattle.std.specs.Int.{int_min, int_max}
 use Rattle.std.proofs.lemmas.Int.{ints, clamps}
-use Rattle.std.proofs.lemmas.Bool.{and_parts, and_from, or_cases, false≢true, cases_Bool, cond_both}
+use Rattle.std.proofs.lemmas.Bool.{and_parts, and_from, or_cases, false≢true, cases_Bool}
 use Rattle.std.proofs.lemmas.Bool.Decides.{nat_tests}
 use Rattle.numbers.specs.Arithmetic.{eq_z}
 use Rattle.numbers.specs.Int.{is_int, lowest, highest}
-use Rattle.numbers.proofs.Comparisons.{eq_z-same, eq_z-other}
-use Rattle.domain.specs.Domain.{holds, allows}
+use Rattle.numbers.proofs.Comparisons.{eq_z-same}
+use Rattle.domain.specs.Domain.{holds}
 use Rattle.interval.specs.Ends.{ordered, among, inside, leaves, least_to_greatest, results, none}
 use Rattle.interval.specs.Exact.{ends_int, Found, Exact, ExactOverflow, ExactFlags}
 use Rattle.interval.specs.Interval.{ends, interval_ops}

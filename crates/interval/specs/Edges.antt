@@ -1,13 +1,13 @@
 -- Results of two numbers lie between the results of the ends, over any ends: one fact for sums, differences, products and quotients.
-use Rattle.std.specs.Prelude.{◌≡◌, ℕ, zero, suc, ◌*◌, ◌/◌, ◌<◌, ◌≤◌, Bool, true, false, cond, ◌&&◌, ℤ, pos, negsuc, ◌+ℤ◌, ◌-ℤ◌, ◌*ℤ◌, neg_ℤ, ◌≤ℤ◌, ◌<ℤ◌, ◌≢◌, int_div, refl}
-use Rattle.std.proofs.Common.{sym, ap, subst, ◌∙◌, mul-le-mul_right, mul-le-mul_left, le-div_iff_mul-le, div-mul-le_self, arith}
+use Rattle.std.specs.Prelude.{◌≡◌, ℕ, zero, suc, ◌*◌, ◌/◌, ◌<◌, ◌≤◌, true, ℤ, pos, negsuc, ◌+ℤ◌, ◌-ℤ◌, ◌*ℤ◌, neg_ℤ, ◌≤ℤ◌, ◌<ℤ◌, ◌≢◌, int_div, refl}
+use Rattle.std.proofs.Common.{sym, subst, mul-le-mul_right, mul-le-mul_left, le-div_iff_mul-le, div-mul-le_self, arith}
 use Rattle.std.proofs.Math.Nat.{div-zero}
 use Rattle.std.proofs.Math.IntN.{neg_ℤ-neg_ℤ, *ℤ_comm, *ℤ-negsuc}
-use Rattle.std.specs.Int.Signed.{≤ℤ_refl, le_z}
+use Rattle.std.specs.Int.Signed.{≤ℤ_refl}
 use Rattle.std.specs.Int.{int_min, int_max}
 use Rattle.std.proofs.lemmas.Int.{ints, clamps, by_lt_z}
 use Rattle.std.proofs.lemmas.Bool.Decides.{nat_tests}
-use Rattle.interval.specs.Ends.{from_to, ordered, among, least_to_greatest, results, negative, positive, quotients, hull}
+use Rattle.interval.specs.Ends.{among, least_to_greatest, results, negative, positive, quotients, hull}
 use Rattle.interval.specs.declared.ends.Ends.{Ends}
 use Rattle.interval.specs.Corners.{results-ordered}
 use Rattle.interval.specs.Order.{among-ordered, span-among, inside-among, hull-left, hull-right}

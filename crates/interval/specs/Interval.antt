@@ -1,5 +1,5 @@
 -- The interval domain: nothing, or the INTs from a low to a high end; every record whose low is above its high is a nothing.
-use Rattle.std.specs.Prelude.{Bool, cond, ◌&&◌, ◌||◌, ℤ, ◌+ℤ◌, ◌-ℤ◌, ◌*ℤ◌, int_le, int_lt}
+use Rattle.std.specs.Prelude.{Bool, ◌&&◌, ◌||◌, ◌+ℤ◌, ◌-ℤ◌, ◌*ℤ◌, int_le, int_lt}
 use Rattle.numbers.specs.Int.{lowest, highest}
 use Rattle.domain.specs.Domain.{Ops}
 use Rattle.domain.specs.declared.Truth.{Truth}

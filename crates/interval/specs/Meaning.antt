@@ -1,16 +1,15 @@
 -- What the interval domain's functions mean, and the laws that it keeps, from the facts of ends at the ends of INT.
-use Rattle.std.specs.Prelude.{◌≡◌, Bool, true, false, ◌&&◌, ℤ, pos, ◌+ℤ◌, ◌-ℤ◌, ◌*ℤ◌, ◌≤ℤ◌, ◌<ℤ◌, ◌≢◌, int_div, int_lt, refl}
+use Rattle.std.specs.Prelude.{◌≡◌, true, ℤ, pos, ◌+ℤ◌, ◌-ℤ◌, ◌*ℤ◌, ◌≢◌, int_div, int_lt}
 use Rattle.std.proofs.Common.{arith}
-use Rattle.std.specs.Int.Signed.{le_z}
 use Rattle.std.proofs.lemmas.Int.{ints}
 use Rattle.std.proofs.lemmas.Bool.{and_parts, and_from, and_right}
 use Rattle.std.proofs.lemmas.Bool.Decides.{nat_tests}
 use Rattle.numbers.specs.Arithmetic.{eq_z}
 use Rattle.numbers.specs.Int.{is_int, lowest, highest}
-use Rattle.domain.specs.Domain.{Lawful, holds, allows, HoldsResults, AsksOverflow, FlagsTruth}
+use Rattle.domain.specs.Domain.{Lawful, holds, allows, HoldsResults, AsksOverflow}
 use Rattle.numbers.proofs.Comparisons.{below-test, int-between}
-use Rattle.interval.specs.Ends.{from_to, among, inside, hull, results, quotients, leaves}
-use Rattle.interval.specs.Interval.{ends, interval, fitted, interval_ops}
+use Rattle.interval.specs.Ends.{from_to, among, hull, results, quotients, leaves}
+use Rattle.interval.specs.Interval.{ends, fitted, interval_ops}
 use Rattle.interval.specs.declared.ends.Ends.{Ends}
 use Rattle.interval.specs.declared.Interval.{Interval}
 use Rattle.interval.specs.Edges.{Edged, results-among, quotients-among, sums-edged, differences-edged, products-edged}

@@ -1,7 +1,6 @@
 -- Facts of ends in general, over any ends: order, join and widening.
-use Rattle.std.specs.Prelude.{◌≡◌, Bool, true, false, cond, ◌&&◌, ℤ, pos, ◌≤ℤ◌, ◌<ℤ◌, int_lt, refl}
+use Rattle.std.specs.Prelude.{◌≡◌, true, false, cond, ◌&&◌, ℤ, ◌≤ℤ◌, int_lt}
 use Rattle.std.proofs.Common.{arith}
-use Rattle.std.specs.Int.Signed.{le_z}
 use Rattle.std.specs.Int.{int_min, int_max}
 use Rattle.std.proofs.lemmas.Int.{ints, clamps}
 use Rattle.std.proofs.lemmas.Bool.{cond_both}

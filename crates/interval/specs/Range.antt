@@ -1,5 +1,5 @@
 -- An interval with its ends in order, and the check that makes one.
-use Rattle.std.specs.Prelude.{◌≡◌, true, false, Some, None, Option}
+use Rattle.std.specs.Prelude.{◌≡◌, false, Some, None, Option}
 use Rattle.interval.specs.Ends.{from_to, ordered}
 use Rattle.interval.specs.declared.ends.Ends.{Ends}
 use Rattle.interval.specs.declared.range.Range.{Range}

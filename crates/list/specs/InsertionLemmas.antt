@@ -1,18 +1,16 @@
 -- A record that takes in a number is the record of the list with that number at its place.
-use Rattle.std.specs.Prelude.{◌≡◌, ℕ, zero, suc, ◌+◌, ◌-◌, ◌<◌, ◌≤◌, Bool, true, false, cond, not, ◌&&◌, ◌||◌, List, [], ◌∷◌, ◌++◌, length, take, drop, replicate, ℤ, pos, fold, ◌==◌, int_lt, nat_lt, slice_index_or, refl}
+use Rattle.std.specs.Prelude.{◌≡◌, ℕ, suc, ◌+◌, ◌-◌, ◌<◌, ◌≤◌, Bool, true, false, cond, ◌&&◌, List, [], ◌∷◌, ◌++◌, length, take, drop, replicate, ℤ, pos, fold, ◌==◌, int_lt, nat_lt, slice_index_or, refl}
 use Rattle.std.proofs.Common.{sym, ap, ◌∙◌, subst, ⊎_elim, one-add, arith}
-use Rattle.std.specs.Int.Signed.{le_z}
-use Rattle.std.proofs.lemmas.List.{length-append, length-replicate, take_at, length-take, length-take-le, length-drop, take-append-le, drop-append-le, append_assoc, replicate_more}
+use Rattle.std.proofs.lemmas.List.{length-append, length-replicate, take_at, length-drop, take-append-le, drop-append-le, append_assoc, replicate_more}
 use Rattle.std.proofs.lemmas.List.Edits.{length-insert}
 use Rattle.std.proofs.lemmas.List.Sums.{prefix_len-le-length}
 use Rattle.std.proofs.lemmas.Int.{ints}
 use Rattle.std.proofs.lemmas.Bool.{cond-true, cond-false, and_parts, false≢true, le-leb, lt-leb, le-ltb, eq-eqb, ne_eqb, cases_lt, cases_eq}
 use Rattle.std.proofs.lemmas.Bool.Decides.{nat_tests}
-use Rattle.std.specs.List.{prefix_len}
 use Rattle.numbers.specs.Arithmetic.{eq_z}
 use Rattle.list.specs.Insertion.{place, stands_at, shifted_in, put_in}
-use Rattle.list.specs.NumberList.{packed, everything, smallest}
-use Rattle.list.specs.Numbers.{placed, sorted}
+use Rattle.list.specs.NumberList.{packed, everything}
+use Rattle.list.specs.Numbers.{placed}
 use Rattle.list.specs.declared.NumberList.{NumberList}
 
 -- one place further on in a longer list

@@ -1,6 +1,6 @@
 -- Steps and ends of the loops over a slice: what is left of it gives the answer.
 use Rattle.std.specs.Prelude.{◌≡◌, ℕ, zero, suc, ◌+◌, ◌-◌, ◌<◌, ◌≤◌, Bool, true, false, not, ◌&&◌, ◌||◌, List, [], ◌∷◌, ◌++◌, length, drop, ℤ, pos, ◌+ℤ◌, fold, FitsSigned, ◌≢◌, int_le, int_lt, slice_index_or, refl}
-use Rattle.std.proofs.Common.{sym, ap, ◌∙◌, subst, arith, to_z, of_z}
+use Rattle.std.proofs.Common.{sym, ap, ◌∙◌, arith, to_z, of_z}
 use Rattle.std.specs.Int.{w16}
 use Rattle.std.proofs.lemmas.List.{at_drop_more, drop_more, length-drop}
 use Rattle.std.proofs.lemmas.Int.{ints, to_z-of_z}

@@ -1,7 +1,6 @@
 -- The list domain: up to eight INTs that ascend strictly, or everything; a record of neither form contains nothing.
-use Rattle.std.specs.Prelude.{ℕ, ◌-◌, Bool, true, false, cond, not, ◌&&◌, ◌||◌, List, [], ◌∷◌, ◌++◌, length, take, replicate, ℤ, pos, ◌+ℤ◌, ◌==◌, int_lt, nat_le}
+use Rattle.std.specs.Prelude.{◌-◌, Bool, true, false, cond, not, ◌&&◌, ◌||◌, List, [], ◌++◌, length, take, replicate, ℤ, pos, ◌+ℤ◌, ◌==◌, int_lt, nat_le}
 use Rattle.domain.specs.Domain.{Ops}
-use Rattle.domain.specs.declared.Truth.{Truth}
 use Rattle.list.specs.Numbers.{member, all_in, ascending, sorted, counted, pairs, some_pair}
 use Rattle.list.specs.Operations.{result_of, passes}
 use Rattle.list.specs.declared.NumberList.{NumberList}

@@ -1,5 +1,5 @@
 -- What the operations and tests give for two numbers.
-use Rattle.std.specs.Prelude.{Bool, cond, not, ℤ, pos, ◌+ℤ◌, ◌-ℤ◌, ◌*ℤ◌, Some, None, Option, int_div, int_lt}
+use Rattle.std.specs.Prelude.{Bool, cond, not, ℤ, pos, ◌+ℤ◌, ◌-ℤ◌, ◌*ℤ◌, None, Option, int_div, int_lt}
 use Rattle.numbers.specs.Arithmetic.{eq_z}
 use Rattle.numbers.specs.Int.{is_int, in_int}
 use Rattle.list.specs.declared.operations.Operation.{Operation}

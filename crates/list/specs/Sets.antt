@@ -1,9 +1,9 @@
 -- Records of the list domain as sets: which numbers they contain, and when one is within another.
-use Rattle.std.specs.Prelude.{◌≡◌, ℕ, ◌+◌, ◌<◌, ◌≤◌, Bool, true, false, cond, not, ◌&&◌, ◌||◌, ◌⊎◌, List, [], ◌∷◌, ◌++◌, length, take, ℤ, pos, nat_eq, nat_le, refl}
+use Rattle.std.specs.Prelude.{◌≡◌, ◌≤◌, Bool, true, false, cond, not, ◌||◌, ◌⊎◌, List, [], ◌∷◌, length, take, ℤ, nat_eq, nat_le, refl}
 use Rattle.std.proofs.Common.{sym, ap, subst, ◌∙◌, inl, inr, ⊎_elim, arith}
 use Rattle.std.proofs.lemmas.List.{length-take, nil_from_length}
-use Rattle.std.proofs.lemmas.Bool.{and_parts, and_from, or_cases, or_left, or_right, or_parts, false≢true, true≢false, cond-true, cond-false, cond_both, leb-true, le-leb, eqb-true, not-true, not_from_true, not_from_false, cases_Bool, cases_lt}
-use Rattle.list.specs.NumberList.{listed, packed, everything, smallest, is_empty, is_within, by_sides}
+use Rattle.std.proofs.lemmas.Bool.{and_parts, and_from, or_cases, or_left, or_right, false≢true, cond-true, cond-false, cond_both, leb-true, le-leb, eqb-true, not-true, not_from_false, cases_Bool, cases_lt}
+use Rattle.list.specs.NumberList.{listed, packed, smallest, is_empty, is_within, by_sides}
 use Rattle.list.specs.Numbers.{member, all_in, ascending, sorted}
 use Rattle.list.specs.declared.NumberList.{NumberList}
 use Rattle.list.specs.InsertionLemmas.{packed-short, packed-long, front}

@@ -1,4 +1,4 @@
-use Rattle.std.proofs.Common.{◌≡◌, ℕ, zero, suc, ◌-◌, Bool, true, false, List, ℤ, pos, negsuc, ◌+ℤ◌, ◌<ℤ◌, fold, sym, ap, ◌∙◌, subst, arith, w16, SFits, of_z, rules}
+use Rattle.std.proofs.Common.{◌≡◌, zero, suc, ◌-◌, Bool, true, false, ℤ, pos, negsuc, ◌+ℤ◌, ◌<ℤ◌, fold, sym, ap, ◌∙◌, subst, arith, w16, SFits, of_z, rules}
 use lib.IntN.{+ℤ_one}
 use lib.Signed.{lt_z}
 use Rattle.std.proofs.lemmas.Int.{ints, to_z-of_z}
@@ -52,7 +52,7 @@ returns t c =
     let high : SFits w16 b = search rules in
     let put : c.put-set.result ≡ put_in c.args.set a = c.put-set.ensures ∙ ap (put_in c.args.set) (to_z-of_z w16 _ low) in
     let next : passed (passed a +ℤ pos 1) ≡ a +ℤ pos 1 = next-is a b low high (read a b false low high c.if-low-high.false) c.if-low-high-2.false in
-    c.count-up.ensures
+    c.count_up.ensures
     ∙ ap (λ s. fold put_in s (counted (k - 1) (passed (passed a +ℤ pos 1)) (passed b))) put
     ∙ ap (λ z. fold put_in (put_in c.args.set a) (counted (k - 1) z (passed b))) next
     ∙ ap (λ z. fold put_in (put_in c.args.set a) (counted (k - 1) (a +ℤ pos 1) z)) (to_z-of_z w16 _ high)

@@ -1,4 +1,4 @@
-use Rattle.std.proofs.Common.{◌≡◌, [], fold, ap, ◌∙◌}
+use Rattle.std.proofs.Common.{[], fold, ap, ◌∙◌}
 use Rattle.list.specs.Insertion.{put_in}
 use Rattle.list.specs.Numbers.{pairs}
 use Rattle.list.specs.Operations.{result_of}
@@ -8,4 +8,4 @@ use Rattle.list.proofs.all_results.Goals as goal
 pub returns : goal.returns
 returns c =
     let ns = pairs (result_of c.args.operation) c.args.xs.now c.args.ys.now in
-    c.put-pairs.ensures ∙ ap (λ s. fold put_in s ns) c.none.ensures ∙ put-many [] ns
+    c.put_pairs.ensures ∙ ap (λ s. fold put_in s ns) c.none.ensures ∙ put-many [] ns

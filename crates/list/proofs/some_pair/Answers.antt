@@ -13,17 +13,17 @@ loop-a-preserved c =
     let i = c.loop-a.a-index in
     let test = passes c.args.test in
     let fits : SFits w16 (get_or xs i (pos 0)) = search rules in
-    let no : some_with test (get_or xs i (pos 0)) ys ≡ false = ap (λ z. some_with test z ys) (sym (to_z-of_z w16 _ fits)) ∙ sym c.some-in.ensures ∙ c.if-some-in.false in
+    let no : some_with test (get_or xs i (pos 0)) ys ≡ false = ap (λ z. some_with test z ys) (sym (to_z-of_z w16 _ fits)) ∙ sym c.some_in.ensures ∙ c.if-some_in.false in
     or_step (λ zs. some_pair test zs ys) (λ a. some_with test a ys) (λ _ _. refl) xs i false c.loop-a-test.true no c.loop-a.invariant
 
-pub returns-then-some-in : goal.returns-then-some-in
-returns-then-some-in c =
+pub returns-then-some_in : goal.returns-then-some_in
+returns-then-some_in c =
     let xs : List ℤ = c.args.xs.now in
     let ys : List ℤ = c.args.ys.now in
     let i = c.loop-a.a-index in
     let test = passes c.args.test in
     let fits : SFits w16 (get_or xs i (pos 0)) = search rules in
-    let yes : some_with test (get_or xs i (pos 0)) ys ≡ true = ap (λ z. some_with test z ys) (sym (to_z-of_z w16 _ fits)) ∙ sym c.some-in.ensures ∙ c.if-some-in.true in
+    let yes : some_with test (get_or xs i (pos 0)) ys ≡ true = ap (λ z. some_with test z ys) (sym (to_z-of_z w16 _ fits)) ∙ sym c.some_in.ensures ∙ c.if-some_in.true in
     or_step (λ zs. some_pair test zs ys) (λ a. some_with test a ys) (λ _ _. refl) xs i true c.loop-a-test.true yes c.loop-a.invariant
 
 pub returns : goal.returns

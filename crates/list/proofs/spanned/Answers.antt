@@ -1,4 +1,4 @@
-use Rattle.std.proofs.Common.{◌≡◌, [], fold, ap, ◌∙◌, w16, SFits, rules}
+use Rattle.std.proofs.Common.{[], fold, ap, ◌∙◌, w16, SFits, rules}
 use Rattle.std.proofs.lemmas.Int.{to_z-of_z}
 use Rattle.list.specs.Insertion.{put_in}
 use Rattle.list.specs.NumberList.{packed}
@@ -13,7 +13,7 @@ returns c =
     let b = c.args.high in
     let low : SFits w16 a = search rules in
     let high : SFits w16 b = search rules in
-    c.count-up.ensures
+    c.count_up.ensures
     ∙ ap (λ s. fold put_in s (counted 8 (passed a) (passed b))) c.none.ensures
     ∙ ap (λ z. fold put_in (packed []) (counted 8 z (passed b))) (to_z-of_z w16 a low)
     ∙ ap (λ z. fold put_in (packed []) (counted 8 a z)) (to_z-of_z w16 b high)

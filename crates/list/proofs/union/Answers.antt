@@ -1,4 +1,4 @@
-use Rattle.std.proofs.Common.{◌≡◌, List, [], ◌++◌, ℤ, fold, sym, ap, ◌∙◌}
+use Rattle.std.proofs.Common.{List, [], ◌++◌, ℤ, fold, sym, ap, ◌∙◌}
 use Rattle.list.specs.Insertion.{put_in}
 use Rattle.list.specs.InsertionLemmas.{put-many}
 use Rattle.list.specs.Loops.{folded-append}
@@ -8,4 +8,4 @@ pub returns : goal.returns
 returns c =
     let xs : List ℤ = c.args.xs.now in
     let ys : List ℤ = c.args.ys.now in
-    c.put-all-2.ensures ∙ ap (λ s. fold put_in s ys) (c.put-all.ensures ∙ ap (λ s. fold put_in s xs) c.none.ensures) ∙ sym (folded-append put_in _ xs ys) ∙ put-many [] (xs ++ ys)
+    c.put_all-2.ensures ∙ ap (λ s. fold put_in s ys) (c.put_all.ensures ∙ ap (λ s. fold put_in s xs) c.none.ensures) ∙ sym (folded-append put_in _ xs ys) ∙ put-many [] (xs ++ ys)

@@ -1,4 +1,4 @@
-use Rattle.std.proofs.Common.{◌≡◌, arith, w32, SFits, rules}
+use Rattle.std.proofs.Common.{w32, SFits, rules}
 use Rattle.std.proofs.lemmas.Int.{to_z-of_z}
 use Rattle.interval.proofs.ends.spread.Goals as goal
 

@@ -1,4 +1,4 @@
-use Rattle.std.proofs.Common.{◌≡◌, List, [], ◌∷◌, get_or, ℤ, pos, fold, sym, refl, ap, ◌∙◌, w16, SFits, rules}
+use Rattle.std.proofs.Common.{List, [], ◌∷◌, get_or, ℤ, pos, fold, sym, refl, ap, ◌∙◌, w16, SFits, rules}
 use Rattle.std.proofs.lemmas.List.{at_drop_all}
 use Rattle.std.proofs.lemmas.Int.{to_z-of_z}
 use Rattle.list.specs.Insertion.{put_in}

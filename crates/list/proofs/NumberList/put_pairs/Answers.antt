@@ -1,4 +1,4 @@
-use Rattle.std.proofs.Common.{◌≡◌, List, get_or, ℤ, pos, fold, sym, refl, ap, ◌∙◌, w16, SFits, rules}
+use Rattle.std.proofs.Common.{List, get_or, ℤ, pos, fold, sym, refl, ap, ◌∙◌, w16, SFits, rules}
 use Rattle.std.proofs.lemmas.List.{at_drop_all}
 use Rattle.std.proofs.lemmas.Int.{to_z-of_z}
 use Rattle.list.specs.Insertion.{put_in}
@@ -14,8 +14,8 @@ loop-a-preserved c =
     let i = c.loop-a.a-index in
     let op = result_of c.args.operation in
     let fits : SFits w16 (get_or xs i (pos 0)) = search rules in
-    let one = c.put-row-set.ensures ∙ ap (λ z. fold put_in c.loop-a.set (row op z ys)) (to_z-of_z w16 _ fits) in
-    fold_step put_in (λ zs. pairs op zs ys) (λ a. row op a ys) (λ _ _. refl) xs i c.loop-a.set c.put-row-set.result (fold put_in c.args.self (pairs op xs ys)) c.loop-a-test.true one c.loop-a.invariant
+    let one = c.put_row-set.ensures ∙ ap (λ z. fold put_in c.loop-a.set (row op z ys)) (to_z-of_z w16 _ fits) in
+    fold_step put_in (λ zs. pairs op zs ys) (λ a. row op a ys) (λ _ _. refl) xs i c.loop-a.set c.put_row-set.result (fold put_in c.args.self (pairs op xs ys)) c.loop-a-test.true one c.loop-a.invariant
 
 pub returns : goal.returns
 returns c = sym (at_drop_all (λ zs. fold put_in c.loop-a.set (pairs (result_of c.args.operation) zs c.args.ys.now)) c.args.xs.now c.loop-a.a-index c.loop-a-test.false) ∙ c.loop-a.invariant

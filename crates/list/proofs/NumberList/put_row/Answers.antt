@@ -1,4 +1,4 @@
-use Rattle.std.proofs.Common.{◌≡◌, List, get_or, ℤ, pos, fold, sym, refl, ap, ◌∙◌, w16, SFits, rules}
+use Rattle.std.proofs.Common.{List, get_or, ℤ, pos, fold, sym, refl, ap, ◌∙◌, w16, SFits, rules}
 use Rattle.std.proofs.lemmas.List.{at_drop_all}
 use Rattle.std.proofs.lemmas.Int.{to_z-of_z}
 use Rattle.list.specs.Insertion.{put_in}
@@ -14,8 +14,8 @@ loop-b-preserved c =
     let op = result_of c.args.operation in
     let a = passed c.args.a in
     let fits : SFits w16 (get_or ns i (pos 0)) = search rules in
-    let one = c.put-if-set.ensures ∙ ap (λ n. fold put_in c.loop-b.set (if_any n)) (c.result.ensures ∙ ap (op a) (to_z-of_z w16 _ fits)) in
-    fold_step put_in (row op a) (λ b. if_any (op a b)) (λ _ _. refl) ns i c.loop-b.set c.put-if-set.result (fold put_in c.args.self (row op a ns)) c.loop-b-test.true one c.loop-b.invariant
+    let one = c.put_if-set.ensures ∙ ap (λ n. fold put_in c.loop-b.set (if_any n)) (c.result.ensures ∙ ap (op a) (to_z-of_z w16 _ fits)) in
+    fold_step put_in (row op a) (λ b. if_any (op a b)) (λ _ _. refl) ns i c.loop-b.set c.put_if-set.result (fold put_in c.args.self (row op a ns)) c.loop-b-test.true one c.loop-b.invariant
 
 pub returns : goal.returns
 returns c =

@@ -1,4 +1,4 @@
-use Rattle.std.proofs.Common.{◌≡◌, ◌+◌, ◌-◌, Bool, true, false, List, get_or, drop, ℤ, pos, sym, ap, ◌∙◌, subst, arith, w16, SFits, rules}
+use Rattle.std.proofs.Common.{◌≡◌, ◌+◌, ◌-◌, true, false, List, get_or, drop, ℤ, pos, sym, ◌∙◌, subst, arith, w16, SFits, rules}
 use Rattle.list.specs.Numbers.{ascending}
 use Rattle.list.specs.Loops.{turned, ascending-step, ascending-end}
 use Rattle.list.proofs.numbers_of.ascends.Goals as goal

@@ -1,4 +1,4 @@
-use Rattle.std.proofs.Common.{◌+ℤ◌, w16, SFits, rules}
+use Rattle.std.proofs.Common.{◌+ℤ◌, rules}
 use Rattle.numbers.proofs.Widening.{sums-fit}
 use Rattle.interval.specs.Corners.{spread-is}
 use Rattle.interval.proofs.range.Range.add.Goals as goal

@@ -1,4 +1,4 @@
-use Rattle.std.proofs.Common.{◌≡◌, ℤ, pos, negsuc, ap, ◌∙◌, w16, SFits, rules}
+use Rattle.std.proofs.Common.{◌≡◌, pos, negsuc, ap, ◌∙◌, w16, SFits, rules}
 use lib.Signed.{quot_z}
 use Rattle.std.specs.Int.{int_min, int_max}
 use Rattle.std.proofs.lemmas.Int.{to_z-of_z}

@@ -1,4 +1,4 @@
-use Rattle.std.proofs.Common.{◌≡◌, false, cond, ℤ, pos, ◌*ℤ◌, sym, ap, ◌∙◌, w16, w32, to_z, of_z, rules}
+use Rattle.std.proofs.Common.{◌≡◌, false, pos, ◌*ℤ◌, sym, ap, ◌∙◌, w16, w32, to_z, of_z, rules}
 use lib.Signed.{quot_z}
 use Rattle.std.proofs.lemmas.Bool.{cond-false}
 use Rattle.numbers.specs.Arithmetic.{eq_z}

@@ -1,4 +1,4 @@
-use Rattle.std.proofs.Common.{◌≡◌, not, ◌*ℤ◌, sym, ap, ◌∙◌, rules}
+use Rattle.std.proofs.Common.{not, ◌*ℤ◌, sym, ap, ◌∙◌, rules}
 use Rattle.numbers.specs.Int.{is_int}
 use Rattle.numbers.proofs.Widening.{passed_is, products-fit}
 use Rattle.list.specs.Operations.{passes}
