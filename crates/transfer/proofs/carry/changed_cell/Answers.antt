@@ -5,7 +5,7 @@ use Rattle.transfer.proofs.carry.changed_cell.Goals as goal
 
 pub returns-then-index-eq0 : goal.returns-then-index-eq0
 returns-then-index-eq0 g c =
-    c.result-cell.ensures ∙ sym (variable-other g.D.Domain.ops c.args.row.now c.args.cr c.args.cell (nothing g.D.Domain.ops) c.args.variable c.args.index (λ e. omega arith))
+    c.result_cell.ensures ∙ sym (variable-other g.D.Domain.ops c.args.row.now c.args.cr c.args.cell (nothing g.D.Domain.ops) c.args.variable c.args.index (λ e. omega arith))
 
 pub returns-then-index-row : goal.returns-then-index-row
 returns-then-index-row g c =
@@ -17,4 +17,4 @@ returns-else-index-row g c =
 
 pub returns-else-index-variable : goal.returns-else-index-variable
 returns-else-index-variable g c =
-    c.result-cell-else-index-variable.ensures ∙ sym (variable-other g.D.Domain.ops c.args.row.now c.args.cr c.args.cell (nothing g.D.Domain.ops) c.args.variable c.args.index (λ e. omega arith))
+    c.result_cell-else-index-variable.ensures ∙ sym (variable-other g.D.Domain.ops c.args.row.now c.args.cr c.args.cell (nothing g.D.Domain.ops) c.args.variable c.args.index (λ e. omega arith))

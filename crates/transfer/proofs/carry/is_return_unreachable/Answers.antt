@@ -5,19 +5,19 @@ use Rattle.transfer.proofs.Changes.{restart-length}
 use Rattle.transfer.proofs.Vacant.{vacant-here, vacant-further, vacant-nowhere}
 use Rattle.transfer.proofs.carry.is_return_unreachable.Goals as goal
 
-pub returns-then-is-vacant : goal.returns-then-is-vacant
-returns-then-is-vacant g c =
+pub returns-then-is_vacant : goal.returns-then-is_vacant
+returns-then-is_vacant g c =
     let o = g.D.Domain.ops in
     let cells = restart_cells o c.args.variables.now (drop 1 c.args.row.now) in
     let n : length cells ≡ length c.args.variables.now = restart-length o c.args.variables.now (drop 1 c.args.row.now) in
-    sym (vacant-here o cells c.loop-i.i c.restart-cell.result (nothing o) (omega arith) c.restart-cell.ensures (sym c.if-is-vacant.ensures)) ∙ c.loop-i.invariant
+    sym (vacant-here o cells c.loop-i.i c.restart_cell.result (nothing o) (omega arith) c.restart_cell.ensures (sym c.if-is_vacant.ensures)) ∙ c.loop-i.invariant
 
 pub loop-i-preserved : goal.loop-i-preserved
 loop-i-preserved g c =
     let o = g.D.Domain.ops in
     let cells = restart_cells o c.args.variables.now (drop 1 c.args.row.now) in
     let n : length cells ≡ length c.args.variables.now = restart-length o c.args.variables.now (drop 1 c.args.row.now) in
-    sym (vacant-further o cells c.loop-i.i c.restart-cell.result (nothing o) (omega arith) c.restart-cell.ensures (sym c.if-is-vacant.ensures)) ∙ c.loop-i.invariant
+    sym (vacant-further o cells c.loop-i.i c.restart_cell.result (nothing o) (omega arith) c.restart_cell.ensures (sym c.if-is_vacant.ensures)) ∙ c.loop-i.invariant
 
 pub returns : goal.returns
 returns g c =

@@ -13,4 +13,4 @@ returns-else-row-eq0 g c =
 
 pub returns-else-index-eq0 : goal.returns-else-index-eq0
 returns-else-index-eq0 g c =
-    c.cell-at.ensures ∙ sym (result-other g.D.Domain.ops c.args.row.now c.args.cr (nothing g.D.Domain.ops) c.args.index (λ e. omega arith))
+    c.cell_at.ensures ∙ sym (result-other g.D.Domain.ops c.args.row.now c.args.cr (nothing g.D.Domain.ops) c.args.index (λ e. omega arith))

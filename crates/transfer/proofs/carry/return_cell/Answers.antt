@@ -8,4 +8,4 @@ use Rattle.transfer.proofs.carry.return_cell.Goals as goal
 pub returns-else-index-eq0 : goal.returns-else-index-eq0
 returns-else-index-eq0 g c =
     let o = g.D.Domain.ops in
-    c.restart-cell.ensures ∙ sym (after_first o (of_value o Unset) (nothing o) (restart_cells o c.args.variables.now (drop 1 c.args.row.now)) c.args.index (omega arith))
+    c.restart_cell.ensures ∙ sym (after_first o (of_value o Unset) (nothing o) (restart_cells o c.args.variables.now (drop 1 c.args.row.now)) c.args.index (omega arith))
