@@ -10,7 +10,7 @@ loop-number-preserved c =
     let ns : List ℤ = c.args.numbers.now in
     let i = c.loop-number.number-index in
     let fits : SFits w16 (get_or ns i (pos 0)) = search rules in
-    c.in-ok-push-number.ensures
+    c.in_ok-push_number.ensures
     ∙ ap (with_number (string_bytes c.loop-number.out)) (to_z-of_z w16 _ fits)
     ∙ ap (λ t. with_number t (get_or ns i (pos 0))) c.loop-number.invariant
     ∙ sym (fold_more with_number [] ns i (pos 0) c.loop-number-test.true)

@@ -17,6 +17,6 @@ loop-i-preserved c =
 
 pub returns : goal.returns
 returns c =
-    c.append-numeral-2.ensures
+    c.append_numeral-2.ensures
     ∙ ap (with_numeral c.loop-i.list) (take_rest c.args.bytes.now c.loop-i.start)
     ∙ numbers-all c.args.bytes.now c.loop-i.list c.loop-i.start c.loop-i.i _ c.loop-i.invariant.1 c.loop-i-test.false
