@@ -14,15 +14,15 @@ loop-i-preserved g c =
     let start = c.args.index * w in
     let i = c.loop-i.i in
     let cells = c.loop-i.cells in
-    let place = c.saturating-add.result in
+    let place = c.saturating_add.result in
     let x = c.index-row-i.result in
     let alike : Alike cells place (start + i) = elim (cases_lt (start + i) (length cells)) [ inl h ↦ inl (omega arith) | inr h ↦ inr (omega arith, h) ] in
     let t = get_or cells (start + i) (nothing o) in
     let same = read_alike cells place (start + i) (nothing o) alike in
     let long : length row ≡ min w (length c.args.row.now) = length-take w c.args.row.now in
-    let written = c.take-in-at-grew.ensures.cells ∙ write-alike cells place (start + i) _ alike ∙ ap (λ u. set cells (start + i) (taken_in o c.args.widening u x)) same in
-    let grew = c.take-in-at-grew.ensures.changed ∙ ap (λ u. not (within o x u)) same in
-    grown-more o c.args.widening cells c.take-in-at-grew.new.cells c.loop-i.changed c.take-in-at-grew.result start row i t x x (omega arith) refl (c.index-row-i.is ∙ sym (get_or-take w c.args.row.now i x (omega arith))) written grew
+    let written = c.take_in_at-grew.ensures.cells ∙ write-alike cells place (start + i) _ alike ∙ ap (λ u. set cells (start + i) (taken_in o c.args.widening u x)) same in
+    let grew = c.take_in_at-grew.ensures.changed ∙ ap (λ u. not (within o x u)) same in
+    grown-more o c.args.widening cells c.take_in_at-grew.new.cells c.loop-i.changed c.take_in_at-grew.result start row i t x x (omega arith) refl (c.index-row-i.is ∙ sym (get_or-take w c.args.row.now i x (omega arith))) written grew
     ∙ c.loop-i.invariant
 
 pub returns : goal.returns

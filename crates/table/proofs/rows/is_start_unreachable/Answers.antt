@@ -5,21 +5,21 @@ use Rattle.transfer.proofs.Vacant.{vacant-here, vacant-further, vacant-nowhere}
 use Rattle.table.proofs.Starting.{initial-length, initial-at}
 use Rattle.table.proofs.rows.is_start_unreachable.Goals as goal
 
-pub returns-then-is-vacant : goal.returns-then-is-vacant
-returns-then-is-vacant g c =
+pub returns-then-is_vacant : goal.returns-then-is_vacant
+returns-then-is_vacant g c =
     let o = g.D.Domain.ops in
     let cells = initial_cells o c.args.variables.now in
     let n = initial-length o c.args.variables.now in
-    let is = c.initial-cell-cell.ensures ∙ initial-at o c.args.variables.now c.loop-i.i _ (nothing o) c.loop-i-test.true in
-    sym (vacant-here o cells c.loop-i.i c.initial-cell-cell.result (nothing o) (omega arith) is (sym c.if-is-vacant.ensures)) ∙ c.loop-i.invariant
+    let is = c.initial_cell-cell.ensures ∙ initial-at o c.args.variables.now c.loop-i.i _ (nothing o) c.loop-i-test.true in
+    sym (vacant-here o cells c.loop-i.i c.initial_cell-cell.result (nothing o) (omega arith) is (sym c.if-is_vacant.ensures)) ∙ c.loop-i.invariant
 
 pub loop-i-preserved : goal.loop-i-preserved
 loop-i-preserved g c =
     let o = g.D.Domain.ops in
     let cells = initial_cells o c.args.variables.now in
     let n = initial-length o c.args.variables.now in
-    let is = c.initial-cell-cell.ensures ∙ initial-at o c.args.variables.now c.loop-i.i _ (nothing o) c.loop-i-test.true in
-    sym (vacant-further o cells c.loop-i.i c.initial-cell-cell.result (nothing o) (omega arith) is (sym c.if-is-vacant.ensures)) ∙ c.loop-i.invariant
+    let is = c.initial_cell-cell.ensures ∙ initial-at o c.args.variables.now c.loop-i.i _ (nothing o) c.loop-i-test.true in
+    sym (vacant-further o cells c.loop-i.i c.initial_cell-cell.result (nothing o) (omega arith) is (sym c.if-is_vacant.ensures)) ∙ c.loop-i.invariant
 
 pub returns : goal.returns
 returns g c =

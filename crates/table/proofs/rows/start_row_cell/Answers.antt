@@ -9,7 +9,7 @@ pub returns-then-index-variables : goal.returns-then-index-variables
 returns-then-index-variables g c =
     let o = g.D.Domain.ops in
     let e : c.args.index ≡ suc (c.args.index - 1) = omega arith in
-    c.initial-cell.ensures ∙ initial-at o c.args.variables.now (c.args.index - 1) _ (nothing o) (omega arith) ∙ sym (ap (λ (n : ℕ). get_or (start_row o c.args.variables.now) n (nothing o)) e)
+    c.initial_cell.ensures ∙ initial-at o c.args.variables.now (c.args.index - 1) _ (nothing o) (omega arith) ∙ sym (ap (λ (n : ℕ). get_or (start_row o c.args.variables.now) n (nothing o)) e)
 
 pub returns-else-index-variables : goal.returns-else-index-variables
 returns-else-index-variables g c =
