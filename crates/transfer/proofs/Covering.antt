@@ -1,5 +1,5 @@
 -- Cells that cover values go on to cover what becomes of them: facts of single cells, from the laws of the domain alone.
-use Rattle.std.proofs.Common.{◌≡◌, ℕ, Bool as Truth, true, false, cond, not, ◌&&◌, ◌||◌, ℤ, pos, ◌≤ℤ◌, sym, refl, ap, ◌∙◌, subst, arith}
+use Rattle.std.proofs.Common.{◌≡◌, Bool as Truth, true, false, cond, not, ◌&&◌, ◌||◌, ℤ, pos, sym, refl, ap, ◌∙◌, arith}
 use Rattle.std.proofs.lemmas.Bool.{and_from, and_parts, or_left, or_right, true≢false}
 use Rattle.std.proofs.lemmas.Int.{ints}
 use Rattle.domain.specs.Domain.{Ops, Lawful, holds}
@@ -13,7 +13,7 @@ use Rattle.cells.specs.declared.value.Sort.{Sort}
 use Rattle.cells.specs.declared.value.Sort.TheVariants as sort
 use Rattle.cells.specs.declared.cell.Cell.{Cell}
 use Rattle.cells.specs.Values.{sort_of, value_of, is_sized}
-use Rattle.cells.specs.Cells.{covers, has, only, is_vacant, of_value, nothing}
+use Rattle.cells.specs.Cells.{covers, has, is_vacant, of_value}
 use Rattle.transfer.specs.Transfer.{any_sort, kept_by}
 
 -- what holds for a sort holds for one of them

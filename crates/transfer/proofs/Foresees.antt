@@ -1,5 +1,5 @@
 -- Stops are foreseen: a row that covers a state has the mark of every cause for which the statement stops there.
-use Rattle.std.proofs.Common.{◌≡◌, ℕ, zero, suc, ◌+◌, ◌*◌, ◌/◌, ◌<◌, ◌≤◌, Bool as Truth, true, false, cond, not, ◌&&◌, ◌||◌, List, [], ◌∷◌, length, get_or, ℤ, pos, negsuc, ◌+ℤ◌, ◌-ℤ◌, ◌*ℤ◌, neg_ℤ, Ok, Err, Result, sym, refl, ap, ◌∙◌, subst, mul-le-mul_left, div-le_self, div-mul-le_self, arith}
+use Rattle.std.proofs.Common.{◌≡◌, ℕ, zero, suc, ◌*◌, ◌/◌, ◌≤◌, Bool as Truth, true, false, cond, not, ◌&&◌, List, [], ◌∷◌, get_or, ℤ, pos, negsuc, ◌+ℤ◌, ◌-ℤ◌, ◌*ℤ◌, neg_ℤ, Ok, Err, Result, sym, refl, ap, ◌∙◌, subst, mul-le-mul_left, div-le_self, div-mul-le_self, arith}
 use lib.Signed.{quot_z}
 use Rattle.std.proofs.lemmas.Int.{ints}
 use Rattle.std.proofs.lemmas.Bool.Decides.{nat_tests}
@@ -9,29 +9,26 @@ use Rattle.numbers.specs.Arithmetic.{eq_z}
 use Rattle.domain.specs.Domain.{Ops, Lawful, holds}
 use Rattle.syntax.specs.declared.operator.Operator.{Operator}
 use Rattle.syntax.specs.declared.operator.Operator.TheVariants.{Ld, Ldn, And, Andn, Or, Orn, Xor, Xorn, Add, Sub, Mul, Div, Gt, Ge, Lt, Le, Eq, Ne}
-use Rattle.syntax.specs.declared.record.Operand.{Operand}
 use Rattle.syntax.specs.declared.record.Operation.{Operation}
 use Rattle.syntax.specs.declared.record.Operation.TheVariants as operation
 use Rattle.syntax.specs.declared.record.Variable.{Variable}
 use Rattle.syntax.specs.declared.record.Statement.{Statement}
 use Rattle.cells.specs.declared.value.Value.{Value}
-use Rattle.cells.specs.declared.value.Value.TheVariants.{Unset, Bool, Int}
-use Rattle.cells.specs.declared.value.Sort.{Sort}
+use Rattle.cells.specs.declared.value.Value.TheVariants.{Unset, Int}
 use Rattle.cells.specs.declared.cell.Cell.{Cell}
 use Rattle.cells.specs.Values.{sort_of, is_sized}
 use Rattle.cells.specs.Cells.{covers, has, is_vacant, nothing}
 use Rattle.meaning.specs.declared.compute.Cause.{Cause}
 use Rattle.meaning.specs.declared.compute.Cause.TheVariants.{Kind, ZeroDivisor, Overflow}
-use Rattle.meaning.specs.declared.edge.Edge.{Edge}
-use Rattle.meaning.specs.Meaning.{is_number, accepts_operator, accepted, number_of, sized, quotient, arithmetic, computed, State, operand, performed, perform, with_result as result_of}
+use Rattle.meaning.specs.Meaning.{is_number, accepts_operator, accepted, sized, quotient, computed, State, operand, performed, with_result as result_of}
 use Rattle.transfer.specs.Rows.{covers_all, is_unreachable}
 use Rattle.transfer.specs.Transfer.{any_sort, operand_in}
 use Rattle.transfer.specs.Marks.{has_cause, unreachable_marks, zero_by, overflow_by, kind_mark, marks_by, marks_of}
-use Rattle.transfer.specs.Soundness.{Sized, Before, Foresees}
+use Rattle.transfer.specs.Soundness.{Before, Foresees}
 use Rattle.transfer.proofs.Covering.{any-from, clash, held, not-empty, covers-some}
 use Rattle.transfer.proofs.Operators.{number_is, sized-stops}
 use Rattle.transfer.proofs.Simulation.{Each, each_from, operand-sized, operand-covered, operand-has, cr-has, cr-covered}
-use Rattle.transfer.proofs.Simulates.{never, same-pair}
+use Rattle.transfer.proofs.Simulates.{never}
 
 same-cause : {X : Type 0} (c d : Cause) → ◌≡◌ {A = Result X Cause} (Err c) (Err d) → c ≡ d
 same-cause c d e = cc

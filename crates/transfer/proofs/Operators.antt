@@ -1,27 +1,23 @@
 -- What an operator makes of two values, the cell that it makes of their cells covers; and a stop is asked for.
-use Rattle.std.proofs.Common.{◌≡◌, ℕ, Bool as Truth, true, false, cond, not, ◌&&◌, ◌||◌, ◌⊎◌, ℤ, pos, negsuc, ◌+ℤ◌, ◌-ℤ◌, ◌*ℤ◌, Ok, Err, Result, sym, refl, ap, ◌∙◌, subst, inl, inr, ⊎_elim, arith}
+use Rattle.std.proofs.Common.{◌≡◌, ℕ, Bool as Truth, true, false, cond, not, ◌&&◌, ◌||◌, ◌⊎◌, ℤ, pos, ◌+ℤ◌, ◌-ℤ◌, ◌*ℤ◌, Ok, Err, Result, sym, refl, ap, subst, inl, inr, ⊎_elim, arith}
 use lib.Signed.{lt_z, quot_z}
-use Rattle.std.proofs.lemmas.Bool.{and_from, and_parts, or_left, or_right}
-use Rattle.std.proofs.lemmas.Int.{ints}
-use Rattle.std.proofs.lemmas.Bool.Decides.{nat_tests}
+use Rattle.std.proofs.lemmas.Bool.{and_from, and_parts}
 use Rattle.domain.specs.declared.Truth.{Truth as Flags}
 use Rattle.domain.specs.Domain.{Ops, Lawful, holds, allows}
-use Rattle.numbers.specs.Int.{is_int, lowest}
+use Rattle.numbers.specs.Int.{is_int}
 use Rattle.numbers.specs.Arithmetic.{eq_z}
 use Rattle.syntax.specs.declared.operator.Operator.{Operator}
 use Rattle.syntax.specs.declared.operator.Operator.TheVariants.{Ld, Ldn, And, Andn, Or, Orn, Xor, Xorn, Add, Sub, Mul, Div, Gt, Ge, Lt, Le, Eq, Ne}
 use Rattle.cells.specs.declared.value.Value.{Value}
 use Rattle.cells.specs.declared.value.Value.TheVariants.{Unset, Bool, Int}
-use Rattle.cells.specs.declared.value.Sort.{Sort}
 use Rattle.cells.specs.declared.cell.Cell.{Cell}
 use Rattle.cells.specs.Values.{sort_of, is_sized}
 use Rattle.cells.specs.Cells.{covers}
 use Rattle.meaning.specs.declared.compute.Cause.{Cause}
-use Rattle.meaning.specs.declared.compute.Cause.TheVariants.{Kind, ZeroDivisor, Overflow}
-use Rattle.meaning.specs.Meaning.{is_bool, is_number, accepts_operator, combined, truth_of, number_of, opposite, sized, quotient, computed}
-use Rattle.transfer.specs.Transfer.{exchanged, truths, flagged, opposites, over_pairs, logical, transferred}
-use Rattle.transfer.specs.Marks.{zero_by, overflow_by}
-use Rattle.transfer.proofs.Covering.{clash, held, contained, not-empty}
+use Rattle.meaning.specs.declared.compute.Cause.TheVariants.{ZeroDivisor, Overflow}
+use Rattle.meaning.specs.Meaning.{is_bool, is_number, accepts_operator, combined, opposite, sized, quotient, computed}
+use Rattle.transfer.specs.Transfer.{exchanged, flagged, opposites, over_pairs, logical, transferred}
+use Rattle.transfer.proofs.Covering.{clash, held, contained}
 
 -- a value of a sort that is BOOL is one, and so with INT
 pub bool_is : (v : Value) → is_bool (sort_of v) ≡ true → (b : Truth) × (v ≡ Bool b)

@@ -1,5 +1,5 @@
 -- Simulation: where a statement runs, the row that is carried covers the new state; where it stops, the marks have the cause.
-use Rattle.std.proofs.Common.{◌≡◌, ℕ, zero, suc, ◌+◌, ◌<◌, ◌≤◌, Bool as Truth, true, false, cond, not, ◌&&◌, ◌||◌, List, [], ◌∷◌, length, get_or, set, Some, None, Ok, Err, Option, Result, sym, refl, ap, ◌∙◌, subst, ⊎_elim, add-one, arith}
+use Rattle.std.proofs.Common.{◌≡◌, ℕ, suc, ◌<◌, Bool as Truth, true, false, cond, not, List, ◌∷◌, length, get_or, set, Some, Ok, Err, Result, sym, refl, ap, ◌∙◌, subst, add-one, arith}
 use Rattle.std.proofs.lemmas.List.{length-set, set-get_or}
 use Rattle.std.proofs.lemmas.Bool.{and_from, and_parts, or_left, or_right, ltb-true}
 use Rattle.domain.specs.Domain.{Ops, Lawful}
@@ -11,20 +11,19 @@ use Rattle.syntax.specs.declared.record.Operation.{Operation}
 use Rattle.syntax.specs.declared.record.Operation.TheVariants as operation
 use Rattle.syntax.specs.declared.record.Variable.{Variable}
 use Rattle.syntax.specs.declared.record.Statement.{Statement}
-use Rattle.reading.specs.Formed.{names_only}
 use Rattle.cells.specs.declared.value.Value.{Value}
 use Rattle.cells.specs.declared.value.Value.TheVariants.{Unset, Bool, Int}
 use Rattle.cells.specs.declared.cell.Cell.{Cell}
 use Rattle.cells.specs.Values.{sort_of}
-use Rattle.cells.specs.Cells.{covers, nothing}
+use Rattle.cells.specs.Cells.{covers}
 use Rattle.meaning.specs.declared.compute.Cause.{Cause}
 use Rattle.meaning.specs.declared.compute.Cause.TheVariants.{Kind}
 use Rattle.meaning.specs.declared.edge.Edge.{Edge}
 use Rattle.meaning.specs.declared.edge.Edge.TheVariants as way
-use Rattle.meaning.specs.Meaning.{is_bool, accepts_jump, accepts_store, accepted, truth_of, opposite, computed, State, operand, stored, jumps, performed, perform, with_result as result_of}
+use Rattle.meaning.specs.Meaning.{is_bool, accepts_jump, accepts_store, accepted, truth_of, opposite, computed, State, operand, stored, jumps, performed, with_result as result_of}
 use Rattle.transfer.specs.Rows.{covers_all}
 use Rattle.transfer.specs.Transfer.{left_of, right_of, opposites, transferred, stored_cell, only_truth, with_result, with_variable, carried_by, carried}
-use Rattle.transfer.specs.Soundness.{Sized, CoversState, Before, Simulates}
+use Rattle.transfer.specs.Soundness.{CoversState, Before, Simulates}
 use Rattle.transfer.proofs.Covering.{clash}
 use Rattle.transfer.proofs.Operators.{bool_is, opposite-covers, transferred-covers}
 use Rattle.transfer.proofs.Simulation.{Each, each_from, from_each, set-each, operand-sized, left-covers, right-covers, carries}

@@ -1,39 +1,29 @@
 -- Rows that cover states go on to cover what a statement makes of them.
-use Rattle.std.proofs.Common.{◌≡◌, ℕ, zero, suc, ◌+◌, ◌<◌, ◌≤◌, Bool as Truth, true, false, cond, not, ◌&&◌, ◌||◌, ltb, ◌⊎◌, List, [], ◌∷◌, length, get_or, drop, set, Some, None, Ok, Err, Option, Result, sym, refl, ap, ◌∙◌, subst, inl, inr, ⊎_elim, add-one, arith}
+use Rattle.std.proofs.Common.{◌≡◌, ℕ, zero, suc, ◌+◌, ◌<◌, true, ◌&&◌, List, [], ◌∷◌, length, get_or, set, None, sym, refl, ap, ◌∙◌, subst, ⊎_elim, add-one, arith}
 use lib.Signed.{le_z}
 use Rattle.numbers.specs.Int.{is_int}
 use Rattle.std.proofs.lemmas.List.{length-set, get_or-set_same, get_or-set_other}
-use Rattle.std.proofs.lemmas.Bool.{and_from, and_parts, or_from, ltb-true, cases_eq, cond-true, cond-false}
+use Rattle.std.proofs.lemmas.Bool.{and_from, and_parts, or_from, ltb-true, cases_eq, cond-false}
 use Rattle.domain.specs.Domain.{Ops, Lawful}
-use Rattle.syntax.specs.declared.operator.Operator.{Operator}
-use Rattle.syntax.specs.declared.operator.Store.{Store}
 use Rattle.syntax.specs.declared.operator.Store.TheVariants.{St, Stn, Set, Reset}
-use Rattle.syntax.specs.declared.operator.Jump.{Jump}
-use Rattle.syntax.specs.declared.operator.Jump.TheVariants.{Jmp, Jmpc, Jmpcn}
-use Rattle.syntax.specs.declared.record.Operand.{Operand}
 use Rattle.syntax.specs.declared.record.Operand.TheVariants.{Constant, Variable as variable}
 use Rattle.syntax.specs.declared.record.Operation.{Operation}
 use Rattle.syntax.specs.declared.record.Operation.TheVariants as operation
 use Rattle.syntax.specs.declared.record.Variable.{Variable}
 use Rattle.syntax.specs.declared.record.Statement.{Statement}
 use Rattle.syntax.specs.Records.{no_variable}
-use Rattle.reading.specs.Formed.{is_proper, in_order, names_only, operand_in as operand_proper}
+use Rattle.reading.specs.Formed.{is_proper, in_order, names_only}
 use Rattle.cells.specs.declared.value.Value.{Value}
-use Rattle.cells.specs.declared.value.Value.TheVariants.{Unset, Bool, Int}
-use Rattle.cells.specs.declared.value.Sort.{Sort}
+use Rattle.cells.specs.declared.value.Value.TheVariants.{Unset}
 use Rattle.cells.specs.declared.cell.Cell.{Cell}
 use Rattle.cells.specs.Values.{sort_of, value_of, is_sized}
-use Rattle.cells.specs.Cells.{covers, has, is_vacant, of_value, nothing}
-use Rattle.meaning.specs.declared.compute.Cause.{Cause}
-use Rattle.meaning.specs.declared.compute.Cause.TheVariants.{Kind}
+use Rattle.cells.specs.Cells.{covers, has, is_vacant, nothing}
 use Rattle.meaning.specs.declared.edge.Edge.{Edge}
-use Rattle.meaning.specs.declared.edge.Edge.TheVariants as way
-use Rattle.meaning.specs.Meaning.{accepted, truth_of, opposite, computed, State, kind_value, operand_of, stored_on, operand, stored, jumps, performed, perform, is_bool, with_result as result_of}
-use Rattle.transfer.specs.Rows.{covers_all, is_unreachable, width}
-use Rattle.transfer.specs.Transfer.{any_sort, operand_cell, stored_on_cell, operand_in, left_kept, right_kept, left_of, right_of, truths, opposites, transferred, stored_cell, only_truth, with_result, with_variable, jump_carried, carried_by, carried}
-use Rattle.transfer.specs.Soundness.{Sized, CoversState, Before}
-use Rattle.transfer.proofs.Covering.{any-from, clash, covers-has, covers-some, kept-covers, value-covers, proper-sized}
-use Rattle.transfer.proofs.Operators.{opposite-covers, transferred-covers}
+use Rattle.meaning.specs.Meaning.{accepted, State, kind_value, operand}
+use Rattle.transfer.specs.Rows.{covers_all, width}
+use Rattle.transfer.specs.Transfer.{operand_in, left_kept, right_kept, left_of, right_of, carried_by, carried}
+use Rattle.transfer.specs.Soundness.{Sized}
+use Rattle.transfer.proofs.Covering.{any-from, covers-has, covers-some, kept-covers, value-covers, proper-sized}
 
 module _ {S : Type 0} (o : Ops S) where
   -- a row covers values exactly if each cell covers its own

@@ -1,15 +1,14 @@
 -- The rows at which a scan starts cover the state that it starts with.
-use Rattle.std.proofs.Common.{◌≡◌, ℕ, zero, suc, ◌+◌, ◌<◌, ◌≤◌, Bool as Truth, true, false, ◌&&◌, List, [], ◌∷◌, map, length, get_or, drop, sym, refl, ap, ◌∙◌, subst, add-one, one-add, arith}
+use Rattle.std.proofs.Common.{◌≡◌, ℕ, zero, suc, ◌+◌, ◌<◌, true, false, List, [], ◌∷◌, length, get_or, drop, sym, refl, ap, ◌∙◌, subst, add-one, one-add, arith}
 use lib.Signed.{le_z}
 use Rattle.std.proofs.lemmas.List.{length-drop, get_or-drop, get_or-map}
-use Rattle.std.proofs.lemmas.Bool.{and_from, and_parts}
+use Rattle.std.proofs.lemmas.Bool.{and_parts}
 use Rattle.numbers.specs.Int.{is_int}
 use Rattle.domain.specs.Domain.{Ops, Lawful}
 use Rattle.syntax.specs.declared.record.Class.{Class}
 use Rattle.syntax.specs.declared.record.Class.TheVariants.{Local, Input, Output}
 use Rattle.syntax.specs.declared.record.Constant.{Constant}
 use Rattle.syntax.specs.declared.record.Constant.TheVariants as constant
-use Rattle.syntax.specs.declared.record.Operation.TheVariants as operation
 use Rattle.syntax.specs.declared.record.Variable.{Variable}
 use Rattle.syntax.specs.Records.{no_variable}
 use Rattle.reading.specs.Formed.{is_proper, in_order}
@@ -18,9 +17,8 @@ use Rattle.cells.specs.declared.value.Value.TheVariants.{Unset, Bool, Int}
 use Rattle.cells.specs.declared.cell.Cell.{Cell}
 use Rattle.cells.specs.Values.{value_of}
 use Rattle.cells.specs.Cells.{covers, nothing, of_value}
-use Rattle.meaning.specs.Meaning.{State}
-use Rattle.transfer.specs.Rows.{covers_all, given_to, start_cell, initial_cell, initial_cells, restart_cells}
-use Rattle.transfer.specs.Soundness.{GivenBy, StartedAt, initial_values, Before, SimulatesReturn, StartsCovered}
+use Rattle.transfer.specs.Rows.{given_to, start_cell, initial_cell, initial_cells, restart_cells}
+use Rattle.transfer.specs.Soundness.{GivenBy, StartedAt, SimulatesReturn, StartsCovered}
 use Rattle.transfer.proofs.Covering.{contained, value-covers, proper-sized}
 use Rattle.transfer.proofs.Simulation.{each_from, from_each, variable-covered}
 

@@ -1,5 +1,5 @@
 -- A carried row by what is new in it: the current result, and at most one variable or the inputs.
-use Rattle.std.specs.Prelude.{ℕ, ◌+◌, ◌-◌, ◌^◌, Bool as Truth, true, false, cond, List, Some, None, Option, nat_lt}
+use Rattle.std.specs.Prelude.{ℕ, ◌+◌, Bool as Truth, true, false, cond, List, Some, None, Option, nat_lt}
 use Rattle.domain.specs.Domain.{Ops}
 use Rattle.syntax.specs.declared.operator.Jump.{Jump}
 use Rattle.syntax.specs.declared.operator.Jump.TheVariants.{Jmp, Jmpc, Jmpcn}

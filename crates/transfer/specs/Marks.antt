@@ -1,5 +1,5 @@
 -- The marks of a row before its statement: what could stop it there, or that it is never reached.
-use Rattle.std.specs.Prelude.{ℕ, ◌+◌, Bool as Truth, true, false, cond, not, ◌&&◌, ◌||◌, List, pos, negsuc, slice_index_or}
+use Rattle.std.specs.Prelude.{ℕ, ◌+◌, Bool as Truth, true, false, cond, not, ◌&&◌, List, pos, negsuc, slice_index_or}
 use Rattle.domain.specs.Domain.{Ops}
 use Rattle.numbers.specs.Int.{lowest}
 use Rattle.syntax.specs.declared.operator.Operator.{Operator}
@@ -7,7 +7,6 @@ use Rattle.syntax.specs.declared.operator.Operator.TheVariants.{Ld, Ldn, And, An
 use Rattle.syntax.specs.declared.record.Operation.{Operation}
 use Rattle.syntax.specs.declared.record.Operation.TheVariants as operation
 use Rattle.syntax.specs.declared.record.Variable.{Variable}
-use Rattle.cells.specs.declared.value.Sort.{Sort}
 use Rattle.cells.specs.declared.cell.Cell.{Cell}
 use Rattle.cells.specs.Cells.{nothing, has}
 use Rattle.meaning.specs.declared.compute.Cause.{Cause}

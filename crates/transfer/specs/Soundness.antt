@@ -1,5 +1,5 @@
 -- What the rows of a table promise of the statements before which they stand.
-use Rattle.std.specs.Prelude.{◌≡◌, ℕ, ◌<◌, ◌≤◌, true, false, List, ◌∷◌, map, length, get_or, ◌≤ℤ◌, Some, Ok, Err, ◌≢◌, slice_index_or}
+use Rattle.std.specs.Prelude.{◌≡◌, ℕ, ◌<◌, ◌≤◌, true, List, ◌∷◌, map, length, get_or, ◌≤ℤ◌, Some, Ok, Err, ◌≢◌, slice_index_or}
 use Rattle.domain.specs.Domain.{Ops}
 use Rattle.syntax.specs.declared.record.Class.{Class}
 use Rattle.syntax.specs.declared.record.Class.TheVariants.{Local, Input, Output}

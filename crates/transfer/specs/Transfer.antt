@@ -1,5 +1,5 @@
 -- How a row is carried along a statement: the parts that would stop it are dropped, and the sets' functions do the rest.
-use Rattle.std.specs.Prelude.{ℕ, ◌+◌, Bool as Truth, true, false, cond, not, ◌&&◌, ◌||◌, List, [], ◌∷◌, drop, pos, Some, None, Option, slice_index_or, slice_set}
+use Rattle.std.specs.Prelude.{ℕ, ◌+◌, Bool as Truth, true, false, cond, not, ◌&&◌, ◌||◌, List, ◌∷◌, drop, Some, None, Option, slice_index_or, slice_set}
 use Rattle.domain.specs.Domain.{Ops}
 use Rattle.domain.specs.declared.Truth.{Truth as Flags}
 use Rattle.syntax.specs.declared.operator.Operator.{Operator}
@@ -22,7 +22,7 @@ use Rattle.cells.specs.Cells.{none, nothing, of_value, has, only, is_vacant}
 use Rattle.meaning.specs.Meaning.{accepted, combined, kind_value}
 use Rattle.meaning.specs.declared.edge.Edge.{Edge}
 use Rattle.meaning.specs.declared.edge.Edge.TheVariants as way
-use Rattle.transfer.specs.Rows.{is_unreachable, restart_cells}
+use Rattle.transfer.specs.Rows.{restart_cells}
 
 -- something holds for one of the three sorts
 abbrev pub any_sort : (Sort → Truth) → Truth

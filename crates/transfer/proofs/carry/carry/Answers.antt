@@ -1,4 +1,4 @@
-use Rattle.std.proofs.Common.{sym, ap, ◌∙◌, rules}
+use Rattle.std.proofs.Common.{rules}
 use Rattle.transfer.proofs.Changes.{change-row}
 use Rattle.transfer.proofs.carry.carry.Goals as goal
 

@@ -1,4 +1,4 @@
-use Rattle.std.proofs.Common.{◌≡◌, ◌<◌, ◌≤◌, length, drop, sym, ◌∙◌, arith}
+use Rattle.std.proofs.Common.{◌≡◌, length, drop, sym, ◌∙◌, arith}
 use Rattle.cells.specs.Cells.{nothing}
 use Rattle.transfer.specs.Rows.{restart_cells}
 use Rattle.transfer.proofs.Changes.{restart-length}

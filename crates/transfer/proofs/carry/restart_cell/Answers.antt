@@ -1,4 +1,4 @@
-use Rattle.std.proofs.Common.{sym, ◌∙◌, arith, rules}
+use Rattle.std.proofs.Common.{sym, ◌∙◌, arith}
 use Rattle.syntax.specs.Records.{no_variable}
 use Rattle.cells.specs.Cells.{nothing}
 use Rattle.transfer.proofs.Changes.{restart-within, restart-beyond, restart-past}
