@@ -10,7 +10,7 @@ pub loop-k-preserved : goal.loop-k-preserved
 loop-k-preserved g c =
     let p : Code = record { variables = c.args.variables.now; statements = c.args.statements.now } in
     let f = marks_at g.D.Domain.ops p c.args.cells.now in
-    subst (λ (m : Marks). (j : ℕ) → j < c.loop-k.k + 1 → get_or (set c.loop-k.marks c.loop-k.k m) j no_marks ≡ f j) (sym c.marks-at.ensures)
+    subst (λ (m : Marks). (j : ℕ) → j < c.loop-k.k + 1 → get_or (set c.loop-k.marks c.loop-k.k m) j no_marks ≡ f j) (sym c.marks_at.ensures)
     (fill_by_more f c.loop-k.marks c.loop-k.k no_marks (omega arith) c.loop-k.invariant)
 
 pub returns : goal.returns

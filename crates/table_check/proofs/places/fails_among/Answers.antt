@@ -10,14 +10,14 @@ use Rattle.table_check.proofs.Targets.{jump-inside}
 use Rattle.table_check.proofs.Turns.{among-more, among-all}
 use Rattle.table_check.proofs.places.fails_among.Goals as goal
 
-pub fails-from-requires : goal.fails-from-requires
-fails-from-requires g c =
+pub fails_from-requires : goal.fails_from-requires
+fails_from-requires g c =
     let vars = c.args.variables.now in
     let ss = c.args.statements.now in
-    let names : names_only (length vars) ss c.operation-at.result ≡ true = ap (names_only (length vars) ss) c.operation-at.ensures ∙ c.requires.whole c.loop-k.k c.loop-k-test.true in
+    let names : names_only (length vars) ss c.operation_at.result ≡ true = ap (names_only (length vars) ss) c.operation_at.ensures ∙ c.requires.whole c.loop-k.k c.loop-k-test.true in
     record {
       few = c.requires.few.0;
-      near = (omega arith, omega (arith, jump-inside (length vars) c.loop-k.k ss c.operation-at.result names));
+      near = (omega arith, omega (arith, jump-inside (length vars) c.loop-k.k ss c.operation_at.result names));
       long = row-length (width vars) (length ss) c.loop-k.k c.args.cells.now c.requires.sized c.loop-k-test.true;
     }
 
@@ -28,8 +28,8 @@ returns-in-Some g c =
     let ss = c.args.statements.now in
     let cells = c.args.cells.now in
     let k = c.loop-k.k in
-    let is : Some c.in-Some.place ≡ fails_from o vars cells k c.operation-at.result = sym c.in-Some.is ∙ c.fails-from.ensures in
-    let turn = among-more o vars cells k ss (Some c.in-Some.place) c.loop-k-test.true (is ∙ ap (fails_from o vars cells k) c.operation-at.ensures) in
+    let is : Some c.in-Some.place ≡ fails_from o vars cells k c.operation_at.result = sym c.in-Some.is ∙ c.fails_from.ensures in
+    let turn = among-more o vars cells k ss (Some c.in-Some.place) c.loop-k-test.true (is ∙ ap (fails_from o vars cells k) c.operation_at.ensures) in
     sym turn ∙ c.loop-k.invariant
 
 pub loop-k-preserved : goal.loop-k-preserved
@@ -39,8 +39,8 @@ loop-k-preserved g c =
     let ss = c.args.statements.now in
     let cells = c.args.cells.now in
     let k = c.loop-k.k in
-    let turn = among-more o vars cells k ss c.fails-from.result c.loop-k-test.true (c.fails-from.ensures ∙ ap (fails_from o vars cells k) c.operation-at.ensures) in
-    sym (turn ∙ ap (λ (x : Option ℕ). or_else x (fails_among o vars cells (k + 1) (drop (k + 1) ss))) c.in-default.is) ∙ c.loop-k.invariant
+    let turn = among-more o vars cells k ss c.fails_from.result c.loop-k-test.true (c.fails_from.ensures ∙ ap (fails_from o vars cells k) c.operation_at.ensures) in
+    sym (turn ∙ ap (λ (x : Option ℕ). or_else x (fails_among o vars cells (k + 1) (drop (k + 1) ss))) c.in_default.is) ∙ c.loop-k.invariant
 
 pub returns : goal.returns
 returns g c =

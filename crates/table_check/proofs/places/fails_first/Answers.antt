@@ -5,8 +5,8 @@ use Rattle.table_check.specs.Failures.{fails_at}
 use Rattle.table_check.proofs.Lengths.{return-length, return-starts}
 use Rattle.table_check.proofs.places.fails_first.Goals as goal
 
-pub fails-at-requires : goal.fails-at-requires
-fails-at-requires g c =
+pub fails_at-requires : goal.fails_at-requires
+fails_at-requires g c =
     let o = g.D.Domain.ops in
     let vars = c.args.variables.now in
     record {
@@ -19,4 +19,4 @@ returns g c =
     let o = g.D.Domain.ops in
     let vars = c.args.variables.now in
     let is = ap (λ (x : Carried g.row.D.Denot). row_of o vars [] x) c.starting.ensures ∙ return-starts o vars in
-    c.fails-at.ensures ∙ ap (fails_at o vars c.args.cells.now 0) is
+    c.fails_at.ensures ∙ ap (fails_at o vars c.args.cells.now 0) is

@@ -7,13 +7,13 @@ pub returns-then-not-within : goal.returns-then-not-within
 returns-then-not-within g c =
     let o = g.D.Domain.ops in
     let row = row_of o c.args.variables.now c.args.row.now c.args.carried in
-    sym (outside-here o c.args.variables.now c.args.cells.now c.args.start c.loop-i.i row c.carried-cell.result c.cell-at.result (omega arith) c.carried-cell.ensures c.cell-at.ensures (sym c.within.ensures ∙ c.if-not-within.true)) ∙ c.loop-i.invariant
+    sym (outside-here o c.args.variables.now c.args.cells.now c.args.start c.loop-i.i row c.carried_cell.result c.cell_at.result (omega arith) c.carried_cell.ensures c.cell_at.ensures (sym c.within.ensures ∙ c.if-not-within.true)) ∙ c.loop-i.invariant
 
 pub loop-i-preserved : goal.loop-i-preserved
 loop-i-preserved g c =
     let o = g.D.Domain.ops in
     let row = row_of o c.args.variables.now c.args.row.now c.args.carried in
-    sym (outside-further o c.args.variables.now c.args.cells.now c.args.start c.loop-i.i row c.carried-cell.result c.cell-at.result (omega arith) c.carried-cell.ensures c.cell-at.ensures (sym c.within.ensures ∙ c.if-not-within.false)) ∙ c.loop-i.invariant
+    sym (outside-further o c.args.variables.now c.args.cells.now c.args.start c.loop-i.i row c.carried_cell.result c.cell_at.result (omega arith) c.carried_cell.ensures c.cell_at.ensures (sym c.within.ensures ∙ c.if-not-within.false)) ∙ c.loop-i.invariant
 
 pub returns : goal.returns
 returns g c =

@@ -12,6 +12,6 @@ returns g c =
     record {
       answer = c.judge.ensures.answer;
       marks = c.judge.ensures.marks;
-      only-passing = only-passing o p table m c.judge.result c.judge.ensures.answer;
-      each-passing = each-passing o p table m c.judge.result c.judge.ensures.answer;
+      only_passing = only-passing o p table m c.judge.result c.judge.ensures.answer;
+      each_passing = each-passing o p table m c.judge.result c.judge.ensures.answer;
     }
