@@ -11,14 +11,14 @@ use Rattle.fixpoint.proofs.Turns.{turn-grows, turn-keeps, brought-done}
 use Rattle.fixpoint.proofs.bring.bring_changed.Goals as goal
 use Rattle.fixpoint.proofs.bring.bring_changed.Goals.{then-not-within, else-not-within}
 
-pub offset-bounds-cells-source : goal.offset-bounds-cells-source
-offset-bounds-cells-source g c = scaled_Fits (c.args.from * c.args.width + c.loop-i.i) (length c.args.cells.now) _ (omega arith) (search rules)
+pub offset_bounds-cells-source : goal.offset_bounds-cells-source
+offset_bounds-cells-source g c = scaled_Fits (c.args.from * c.args.width + c.loop-i.i) (length c.args.cells.now) _ (omega arith) (search rules)
 
-pub offset-bounds-cells-target : goal.offset-bounds-cells-target
-offset-bounds-cells-target g c = scaled_Fits (c.args.to * c.args.width + c.loop-i.i) (length c.args.cells.now) _ (omega arith) (search rules)
+pub offset_bounds-cells-target : goal.offset_bounds-cells-target
+offset_bounds-cells-target g c = scaled_Fits (c.args.to * c.args.width + c.loop-i.i) (length c.args.cells.now) _ (omega arith) (search rules)
 
-pub offset-bounds-cells-target-then-not-within : goal.offset-bounds-cells-target-then-not-within
-offset-bounds-cells-target-then-not-within g c =
+pub offset_bounds-cells-target-then-not-within : goal.offset_bounds-cells-target-then-not-within
+offset_bounds-cells-target-then-not-within g c =
     scaled_Fits (c.args.to * c.args.width + c.loop-i.i) (length c.args.cells.now) _ (omega arith) (search rules)
 
 pub loop-i-preserved : goal.loop-i-preserved
@@ -35,7 +35,7 @@ loop-i-preserved g c =
     let source = row_at w before k in
     let row = changed_over o source c.args.cr c.args.at c.args.cell in
     let x = c.index-cells-target.result in
-    let y = c.changed-at-given.result in
+    let y = c.changed_at-given.result in
     let long0 : length source ≡ w = row-length before w k c.requires.from in
     let long : length row ≡ length source = changed-length o source c.args.cr c.args.at c.args.cell in
     let inside : i < length row = omega arith in
@@ -46,7 +46,7 @@ loop-i-preserved g c =
     ∙ sym (row-cell before w k c.requires.from i d c.loop-i-test.true)
     in
     let given : y ≡ get_or row i d =
-    c.changed-at-given.ensures
+    c.changed_at-given.ensures
     ∙ ap (changed_at o c.args.cr c.args.at c.args.cell i) own
     ∙ changed-cell o source c.args.cr c.args.at c.args.cell i d (omega arith)
     in

@@ -9,11 +9,11 @@ use Rattle.fixpoint.proofs.Places.{row-length, row-cell, kept_more, restarted-le
 use Rattle.fixpoint.proofs.Turns.{brought-more, brought-done}
 use Rattle.fixpoint.proofs.bring.bring_restarted.Goals as goal
 
-pub offset-bounds-cells-source : goal.offset-bounds-cells-source
-offset-bounds-cells-source g c = scaled_Fits (c.args.from * (width c.args.variables.now) + c.loop-i.i) (length c.args.cells.now) _ (omega arith) (search rules)
+pub offset_bounds-cells-source : goal.offset_bounds-cells-source
+offset_bounds-cells-source g c = scaled_Fits (c.args.from * (width c.args.variables.now) + c.loop-i.i) (length c.args.cells.now) _ (omega arith) (search rules)
 
-pub offset-bounds-cells-target : goal.offset-bounds-cells-target
-offset-bounds-cells-target g c = scaled_Fits (c.args.to * (width c.args.variables.now) + c.loop-i.i) (length c.args.cells.now) _ (omega arith) (search rules)
+pub offset_bounds-cells-target : goal.offset_bounds-cells-target
+offset_bounds-cells-target g c = scaled_Fits (c.args.to * (width c.args.variables.now) + c.loop-i.i) (length c.args.cells.now) _ (omega arith) (search rules)
 
 pub loop-i-preserved : goal.loop-i-preserved
 loop-i-preserved g c =
@@ -34,14 +34,14 @@ loop-i-preserved g c =
     ∙ c.loop-i.invariant.1 i (omega arith) c.loop-i-test.true
     ∙ sym (row-cell before w k c.requires.from i d c.loop-i-test.true)
     in
-    let given : c.restarted-at-given.result ≡ get_or row i d =
-    c.restarted-at-given.ensures
+    let given : c.restarted_at-given.result ≡ get_or row i d =
+    c.restarted_at-given.ensures
     ∙ ap (restarted_at o vars i) own
     ∙ restarted-cell o vars source i d (omega arith) long0
     in (
-      brought-more o c.args.widening cells c.loop-i.changed c.take-in-grew.result (c.args.to * w) (c.args.to * w + i) row i c.restarted-at-given.result c.take-in-grew.new.target c.index-cells-target.result refl (omega arith) (omega arith) given c.take-in-grew.ensures.cell c.take-in-grew.ensures.changed
+      brought-more o c.args.widening cells c.loop-i.changed c.take_in-grew.result (c.args.to * w) (c.args.to * w + i) row i c.restarted_at-given.result c.take_in-grew.new.target c.index-cells-target.result refl (omega arith) (omega arith) given c.take_in-grew.ensures.cell c.take_in-grew.ensures.changed
           ∙ c.loop-i.invariant.0,
-      kept_more d before cells _ w k c.args.to i c.take-in-grew.new.target c.loop-i-test.true refl c.loop-i.invariant.1,
+      kept_more d before cells _ w k c.args.to i c.take_in-grew.new.target c.loop-i-test.true refl c.loop-i.invariant.1,
     )
 
 pub returns : goal.returns

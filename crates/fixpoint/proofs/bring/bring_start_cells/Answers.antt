@@ -12,7 +12,7 @@ loop-i-preserved g c =
     let i = c.loop-i.i in
     let row = start_row o vars in
     let long = initial-length o vars in
-    brought-more o c.args.widening c.loop-i.cells c.loop-i.changed c.take-in-grew.result 0 i row i c.start-row-cell-given.result c.take-in-grew.new.target c.index-cells-i.result (omega arith) (omega arith) (omega arith) c.start-row-cell-given.ensures c.take-in-grew.ensures.cell c.take-in-grew.ensures.changed
+    brought-more o c.args.widening c.loop-i.cells c.loop-i.changed c.take_in-grew.result 0 i row i c.start_row_cell-given.result c.take_in-grew.new.target c.index-cells-i.result (omega arith) (omega arith) (omega arith) c.start_row_cell-given.ensures c.take_in-grew.ensures.cell c.take_in-grew.ensures.changed
     ∙ c.loop-i.invariant
 
 pub returns : goal.returns

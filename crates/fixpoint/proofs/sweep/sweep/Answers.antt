@@ -8,16 +8,16 @@ use Rattle.fixpoint.proofs.Places.{first-row-fits}
 use Rattle.fixpoint.proofs.Turns.{made_of, swept-more, swept-done, swept_none, swept-some}
 use Rattle.fixpoint.proofs.sweep.sweep.Goals as goal
 
-pub bring-start-changed-requires : goal.bring-start-changed-requires
-bring-start-changed-requires g c =
+pub bring_start-changed-requires : goal.bring_start-changed-requires
+bring_start-changed-requires g c =
     let some : 0 < length c.args.statements.now = omega (arith, c.if-statements-eq0.false) in
     record { few = c.requires.formed.few; to = first-row-fits (length c.args.statements.now) (width c.args.variables.now) (length c.args.cells.now) some c.requires.size }
 
-pub bring-from-grew-requires : goal.bring-from-grew-requires
-bring-from-grew-requires g c =
+pub bring_from-grew-requires : goal.bring_from-grew-requires
+bring_from-grew-requires g c =
     record {
       formed = c.requires.formed;
-      size = c.loop-number.auto.cells ∙ c.bring-start-changed.auto.cells ∙ c.requires.size;
+      size = c.loop-number.auto.cells ∙ c.bring_start-changed.auto.cells ∙ c.requires.size;
       inside = c.loop-number-test.true;
     }
 
@@ -28,7 +28,7 @@ returns-then-statements-eq0 g c =
 
 pub loop-number-preserved : goal.loop-number-preserved
 loop-number-preserved g c =
-    swept-more g.D.Domain.ops c.args.widening c.args.variables.now c.loop-number.cells c.bring-from-grew.new.cells c.loop-number.changed c.bring-from-grew.result c.loop-number.number c.args.statements.now no_statement c.loop-number-test.true c.bring-from-grew.ensures.cells c.bring-from-grew.ensures.changed
+    swept-more g.D.Domain.ops c.args.widening c.args.variables.now c.loop-number.cells c.bring_from-grew.new.cells c.loop-number.changed c.bring_from-grew.result c.loop-number.number c.args.statements.now no_statement c.loop-number-test.true c.bring_from-grew.ensures.cells c.bring_from-grew.ensures.changed
     ∙ c.loop-number.invariant
 
 pub returns : goal.returns
@@ -39,7 +39,7 @@ returns g c =
     let ss = c.args.statements.now in
     let cells = c.args.cells.now in
     let some : 0 < length ss = omega (arith, c.if-statements-eq0.false) in
-    let begun = made_of (brought o b vars 0 (start_row o vars) cells) c.bring-start-changed.new.cells c.bring-start-changed.result c.bring-start-changed.ensures.cells c.bring-start-changed.ensures.changed in
+    let begun = made_of (brought o b vars 0 (start_row o vars) cells) c.bring_start-changed.new.cells c.bring_start-changed.result c.bring_start-changed.ensures.cells c.bring_start-changed.ensures.changed in
     let done =
     sym (swept-done o b vars (record { cells = c.loop-number.cells; changed = c.loop-number.changed }) c.loop-number.number ss c.loop-number-test.false)
     ∙ c.loop-number.invariant

@@ -10,18 +10,18 @@ loop-gap-init g c = (
   record {
     turns = length c.args.text.now + 1;
     enough = omega arith;
-    gives = ap (λ n. taken_from g.D.Domain.ops g.D.Notation.read_as (length c.args.text.now + 1) c.args.text.now c.args.size n start c.args.cells.now) c.gap-from-gap.ensures.is;
+    gives = ap (λ n. taken_from g.D.Domain.ops g.D.Notation.read_as (length c.args.text.now + 1) c.args.text.now c.args.size n start c.args.cells.now) c.gap_from-gap.ensures.is;
   },
 )
 
 pub returns-in-Err : goal.returns-in-Err
-returns-in-Err g c = read_as (refused c.loop-gap.invariant.1 c.loop-gap-test.true _ _ (behind c.loop-gap.invariant.1 _ c.word-end-after.ensures.is _ _ c.take-word.ensures) _ c.in-Err.is)
+returns-in-Err g c = read_as (refused c.loop-gap.invariant.1 c.loop-gap-test.true _ _ (behind c.loop-gap.invariant.1 _ c.word_end-after.ensures.is _ _ c.take_word.ensures) _ c.in-Err.is)
 
 pub loop-gap-preserved : goal.loop-gap-preserved
 loop-gap-preserved g c = (
   omega arith,
-  more c.loop-gap.invariant.1 c.loop-gap-test.true _ _ (behind c.loop-gap.invariant.1 _ c.word-end-after.ensures.is _ _ c.take-word.ensures) _ c.in-Ok.is c.gap-from-gap-in-loop-gap.result
-      (c.gap-from-gap-in-loop-gap.ensures.is ∙ ap (gap_from c.args.text.now) c.word-end-after.ensures.is)
+  more c.loop-gap.invariant.1 c.loop-gap-test.true _ _ (behind c.loop-gap.invariant.1 _ c.word_end-after.ensures.is _ _ c.take_word.ensures) _ c.in-Ok.is c.gap_from-gap-in-loop-gap.result
+      (c.gap_from-gap-in-loop-gap.ensures.is ∙ ap (gap_from c.args.text.now) c.word_end-after.ensures.is)
       (omega arith) (omega arith),
 )
 
