@@ -1,5 +1,4 @@
-use Rattle.std.proofs.Common.{◌≡◌, sym, ap, ◌∙◌, arith, rules}
-use Rattle.syntax.specs.declared.record.Variable.{Variable}
+use Rattle.std.proofs.Common.{ap, ◌∙◌, arith}
 use Rattle.controller.specs.Lists.{is_input, one}
 use Rattle.controller.proofs.Turns.{inputs-more, inputs_end}
 use Rattle.controller.proofs.inputs.count_inputs.Goals as goal

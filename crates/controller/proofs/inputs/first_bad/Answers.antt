@@ -1,4 +1,4 @@
-use Rattle.std.proofs.Common.{◌≡◌, ◌+◌, sym, ap, ◌∙◌, arith}
+use Rattle.std.proofs.Common.{◌+◌, sym, ap, ◌∙◌, arith}
 use Rattle.controller.specs.Lists.{is_input, one}
 use Rattle.controller.proofs.Turns.{bad-found, bad-passed, bad-none}
 use Rattle.controller.proofs.inputs.first_bad.Goals as goal

@@ -1,5 +1,4 @@
-use Rattle.std.proofs.Common.{◌≡◌, sym, ap, ◌∙◌, arith, rules}
-use Rattle.syntax.specs.declared.record.Variable.{Variable}
+use Rattle.std.proofs.Common.{ap, ◌∙◌, arith}
 use Rattle.controller.specs.Lists.{is_output, one}
 use Rattle.controller.proofs.Turns.{outputs-more, outputs-end}
 use Rattle.controller.proofs.outputs.count_outputs.Goals as goal

@@ -1,4 +1,4 @@
-use Rattle.std.proofs.Common.{◌≡◌, ℕ, ◌≤◌, length, sym, refl, ap, ◌∙◌, subst}
+use Rattle.std.proofs.Common.{ℕ, ◌≤◌, length, sym, refl, ap, ◌∙◌, subst}
 use Rattle.syntax.specs.declared.record.Operation.{Operation}
 use Rattle.meaning.specs.Meaning.{perform}
 use Rattle.controller.specs.Tallies.{tally}
@@ -11,7 +11,12 @@ pub invariant_of-self : goal.invariant_of-self
 invariant_of-self c =
     let k = c.args.self.now in
     let near = target-near k.variables.now k.statements.now k.at k.whole (held k.registers) c.in-Ok.edge c.operation_at-operation.result c.operation_at-operation.ensures c.in-Ok.ensures.answer in
-    (k.few, (k.short, (k.whole, (subst (λ (n : ℕ). n ≤ length k.statements.now) (sym c.target-self.ensures) near, tt))))
+    record {
+      few = k.few;
+      short = k.short;
+      whole = k.whole;
+      near = subst (λ (n : ℕ). n ≤ length k.statements.now) (sym c.target-self.ensures) near;
+    }
 
 pub returns-in-Ok : goal.returns-in-Ok
 returns-in-Ok c =

@@ -1,4 +1,4 @@
-use Rattle.std.proofs.Common.{◌≡◌, sym, ap, ◌∙◌, arith}
+use Rattle.std.proofs.Common.{ap, ◌∙◌, arith}
 use Rattle.cells.specs.Values.{value_of}
 use Rattle.controller.specs.declared.slot.Slot.{Slot}
 use Rattle.controller.proofs.Turns.{begun-step, begun_all}

@@ -1,4 +1,4 @@
-use Rattle.std.proofs.Common.{◌≡◌, ◌+◌, ◌<◌, length, get_or, pos, sym, ap, ◌∙◌, arith}
+use Rattle.std.proofs.Common.{◌+◌, ◌<◌, length, get_or, pos, sym, ap, ◌∙◌, arith}
 use Rattle.syntax.specs.Records.{no_variable}
 use Rattle.cells.specs.declared.value.Value.{Value}
 use Rattle.controller.specs.declared.slot.Slot.{Slot}

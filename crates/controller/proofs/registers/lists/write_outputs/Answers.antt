@@ -1,5 +1,4 @@
-use Rattle.std.proofs.Common.{◌≡◌, ◌+◌, ◌<◌, ◌≤◌, Bool, length, get_or, sym, ap, ◌∙◌, arith}
-use Rattle.syntax.specs.Records.{no_variable}
+use Rattle.std.proofs.Common.{◌+◌, ◌<◌, ◌≤◌, length, sym, ap, ◌∙◌, arith}
 use Rattle.controller.specs.Registers.{values_in}
 use Rattle.controller.specs.Lists.{is_output, one}
 use Rattle.controller.proofs.Slots.{read-within, values_length}
