@@ -16,7 +16,7 @@ use Rattle.controller.specs.declared.fault.CallFault.TheVariants.{WrongSize, Ste
 use Rattle.controller.specs.declared.call.Sight.{Sight}
 use Rattle.controller.specs.Tallies.{Tally, none, is_full, stepped as counted, tallied}
 use Rattle.controller.specs.Lists.{input_count, output_count, first_bad}
-use Rattle.controller.specs.Machine.{Machine, Reply, refused, done, advanced, start_with, start_reply, read_reply, sight_of, step_reply, stepped, fresh}
+use Rattle.controller.specs.Machine.{Machine, refused, done, advanced, start_with, sight_of, step_reply, stepped, fresh}
 use Rattle.controller.specs.Runs.{CallOf, take_start, take_step, take_restart, take_read, after, after_all, Alike, RunsAlike}
 
 -- what a step makes of the count of steps

@@ -1,5 +1,5 @@
 -- The laws of starts and steps, from their definition.
-use Rattle.std.proofs.Common.{◌≡◌, ℕ, ◌+◌, ◌≤◌, Bool as Truth, true, false, cond, not, eqb, List, length, ℤ, is_ok, Some, None, Ok, Err, Option, Result, sym, refl, ap, ◌∙◌, subst, arith}
+use Rattle.std.proofs.Common.{◌≡◌, ℕ, ◌+◌, ◌≤◌, Bool as Truth, true, false, cond, not, eqb, List, length, ℤ, Some, None, Ok, Err, Option, Result, sym, refl, ap, ◌∙◌, subst, arith}
 use Rattle.syntax.specs.declared.record.Operation.{Operation}
 use Rattle.syntax.specs.declared.record.Operation.TheVariants.{Return, Not, Label, Apply, Store, Jump}
 use Rattle.program.specs.Model.{Code}
@@ -13,10 +13,9 @@ use Rattle.controller.specs.declared.phase.Phase.TheVariants.{Waiting, Running, 
 use Rattle.controller.specs.declared.fault.CallFault.{CallFault}
 use Rattle.controller.specs.declared.fault.CallFault.TheVariants.{WrongSize, StepsFull, BadInput}
 use Rattle.controller.specs.declared.call.Sight.{Sight}
-use Rattle.controller.specs.declared.controller.Controller.{Controller}
 use Rattle.controller.specs.Tallies.{Tally, plus, is_full, stepped as counted, tallied}
-use Rattle.controller.specs.Lists.{one, input_count, output_count, first_bad}
-use Rattle.controller.specs.Machine.{Machine, machine, Reply, Replied, to_start, to_step, to_restart, to_read, refused, done, fresh, phase_after, advanced, start_with, step_reply, reply_in, stepped}
+use Rattle.controller.specs.Lists.{input_count, output_count, first_bad}
+use Rattle.controller.specs.Machine.{Machine, Reply, to_start, to_step, to_restart, to_read, refused, done, fresh, phase_after, advanced, start_with, reply_in, stepped}
 use Rattle.controller.specs.Laws.{is_stopped, StartLaws, StepLaws}
 
 never : {A : Type 0} → true ≡ false → A

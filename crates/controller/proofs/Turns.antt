@@ -1,6 +1,6 @@
 -- One turn of the loops over the variables.
-use Rattle.std.proofs.Common.{◌≡◌, ℕ, ◌+◌, ◌<◌, ◌≤◌, Bool as Truth, true, false, cond, List, [], ◌∷◌, ◌++◌, length, get_or, take, drop, set, ℤ, pos, Some, None, sym, refl, ap, ◌∙◌, arith}
-use Rattle.std.proofs.lemmas.List.{at_drop_more, at_drop_all, drop_more, take_more, take_more_set, drop-set-lt, drop_all, take_all, append_assoc, append-nil, map-set, length-set, take-append-drop}
+use Rattle.std.proofs.Common.{◌≡◌, ℕ, ◌+◌, ◌<◌, ◌≤◌, Bool as Truth, true, false, cond, List, [], ◌∷◌, ◌++◌, length, get_or, take, drop, set, ℤ, pos, Some, None, sym, ap, ◌∙◌, arith}
+use Rattle.std.proofs.lemmas.List.{at_drop_more, at_drop_all, drop_more, take_more_set, drop-set-lt, drop_all, take_all, append_assoc, append-nil, map-set, length-set, take-append-drop}
 use Rattle.syntax.specs.declared.record.Variable.{Variable}
 use Rattle.syntax.specs.Records.{no_variable}
 use Rattle.cells.specs.declared.value.Value.{Value}

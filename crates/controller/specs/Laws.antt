@@ -1,5 +1,5 @@
 -- What a user may rely on, call by call.
-use Rattle.std.specs.Prelude.{◌≡◌, ℕ, ◌+◌, ◌≤◌, Bool as Truth, true, false, is_ok, Result}
+use Rattle.std.specs.Prelude.{◌≡◌, ◌+◌, ◌≤◌, Bool as Truth, true, false, is_ok, Result}
 use Rattle.controller.specs.declared.phase.Phase.{Phase}
 use Rattle.controller.specs.declared.phase.Phase.TheVariants.{Waiting, Running, Stopped}
 use Rattle.controller.specs.declared.fault.CallFault.{CallFault}

@@ -1,10 +1,9 @@
 -- A controller as plain data, and what each call makes of it.
-use Rattle.std.specs.Prelude.{◌≡◌, ℕ, Bool as Truth, true, false, cond, not, List, [], ◌∷◌, length, ℤ, Some, None, Ok, Err, Option, Result, ◌==◌}
+use Rattle.std.specs.Prelude.{◌≡◌, ℕ, false, cond, not, List, [], ◌∷◌, length, ℤ, Some, None, Ok, Err, Option, Result, ◌==◌}
 use Rattle.domain.specs.Domain.{Ops}
 use Rattle.syntax.specs.declared.record.Operation.{Operation}
 use Rattle.syntax.specs.declared.record.Operation.TheVariants as operation
 use Rattle.syntax.specs.declared.record.Statement.{Statement}
-use Rattle.syntax.specs.declared.record.Variable.{Variable}
 use Rattle.program.specs.Model.{Code}
 use Rattle.cells.specs.declared.value.Value.TheVariants.{Unset}
 use Rattle.cells.specs.declared.cell.Cell.{Cell}

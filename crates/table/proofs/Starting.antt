@@ -1,9 +1,8 @@
 -- The start row, cell by cell.
-use Rattle.std.proofs.Common.{◌≡◌, ℕ, zero, suc, ◌+◌, ◌-◌, ◌<◌, ◌≤◌, List, [], ◌∷◌, length, get_or, drop, sym, refl, ap, ◌∙◌, arith}
+use Rattle.std.proofs.Common.{◌≡◌, ℕ, zero, suc, ◌<◌, List, [], ◌∷◌, length, get_or, refl, ap, arith}
 use Rattle.domain.specs.Domain.{Ops}
 use Rattle.syntax.specs.declared.record.Variable.{Variable}
 use Rattle.cells.specs.declared.cell.Cell.{Cell}
-use Rattle.cells.specs.Cells.{nothing}
 use Rattle.transfer.specs.Rows.{initial_cell, initial_cells}
 
 module _ {S : Type 0} (o : Ops S) where

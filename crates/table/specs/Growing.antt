@@ -1,5 +1,5 @@
 -- How cells of a table take in others: by the join, or by its widening.
-use Rattle.std.specs.Prelude.{ℕ, ◌+◌, ◌*◌, Bool as Truth, true, false, cond, not, ◌||◌, List, [], ◌∷◌, length, take, replicate, nat_lt, slice_index_or, slice_set}
+use Rattle.std.specs.Prelude.{ℕ, ◌+◌, ◌*◌, Bool as Truth, false, cond, not, ◌||◌, List, [], ◌∷◌, take, replicate, nat_lt, slice_index_or, slice_set}
 use Rattle.domain.specs.Domain.{Ops}
 use Rattle.cells.specs.declared.cell.Cell.{Cell}
 use Rattle.cells.specs.Cells.{nothing, within, joined, widened}

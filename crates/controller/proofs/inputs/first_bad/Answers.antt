@@ -1,4 +1,4 @@
-use Rattle.std.proofs.Common.{◌≡◌, ◌+◌, sym, ap, ◌∙◌, arith}
+use Rattle.std.proofs.Common.{◌+◌, sym, ap, ◌∙◌, arith}
 use Rattle.controller.specs.Lists.{is_input, one}
 use Rattle.controller.proofs.Turns.{bad-found, bad-passed, bad-none}
 use Rattle.controller.proofs.inputs.first_bad.Goals as goal
@@ -11,7 +11,7 @@ returns-then-refuses c =
 pub loop-i-preserved : goal.loop-i-preserved
 loop-i-preserved c =
     let vs = c.args.variables.now in
-    let e = c.one-position.ensures.is ∙ ap one (c.is-input.ensures ∙ ap (λ d. is_input d.class) c.declaration.ensures) in (
+    let e = c.one-position.ensures.is ∙ ap one (c.is_input.ensures ∙ ap (λ d. is_input d.class) c.declaration.ensures) in (
       sym (bad-passed vs c.loop-i.i c.args.numbers.now c.loop-i.position (c.loop-i.position + c.one-position.result) c.loop-i-test.true (sym c.if-refuses.ensures) (ap (λ m. c.loop-i.position + m) e)) ∙ c.loop-i.invariant.0,
       omega (arith, c.loop-i.invariant.1, c.one-position.ensures.most),
     )

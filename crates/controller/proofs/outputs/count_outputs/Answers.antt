@@ -1,5 +1,4 @@
-use Rattle.std.proofs.Common.{◌≡◌, sym, ap, ◌∙◌, arith, rules}
-use Rattle.syntax.specs.declared.record.Variable.{Variable}
+use Rattle.std.proofs.Common.{ap, ◌∙◌, arith}
 use Rattle.controller.specs.Lists.{is_output, one}
 use Rattle.controller.proofs.Turns.{outputs-more, outputs-end}
 use Rattle.controller.proofs.outputs.count_outputs.Goals as goal
@@ -7,7 +6,7 @@ use Rattle.controller.proofs.outputs.count_outputs.Goals as goal
 pub loop-i-preserved : goal.loop-i-preserved
 loop-i-preserved c =
     let m = outputs-more c.args.variables.now c.loop-i.i c.loop-i-test.true in
-    let e = c.one-count.ensures.is ∙ ap one (c.is-output.ensures ∙ ap (λ d. is_output d.class) c.declaration.ensures) in
+    let e = c.one-count.ensures.is ∙ ap one (c.is_output.ensures ∙ ap (λ d. is_output d.class) c.declaration.ensures) in
     (omega (arith, c.loop-i.invariant.0), omega (arith, c.loop-i.invariant.1, c.one-count.ensures.most))
 
 pub returns : goal.returns

@@ -1,6 +1,5 @@
-use Rattle.std.proofs.Common.{◌≡◌, not, get_or, sym, ap, ◌∙◌}
+use Rattle.std.proofs.Common.{not, get_or, sym, ap, ◌∙◌}
 use Rattle.std.proofs.lemmas.List.{set_past, get_or_past}
-use Rattle.cells.specs.declared.cell.Cell.{Cell}
 use Rattle.cells.specs.Cells.{nothing, within}
 use Rattle.table.specs.Growing.{taken_in}
 use Rattle.table.proofs.growing.take_in_at.Goals as goal

@@ -1,4 +1,4 @@
-use Rattle.std.proofs.Common.{◌≡◌, ◌<◌, ◌≤◌, length, sym, ◌∙◌, arith}
+use Rattle.std.proofs.Common.{sym, ◌∙◌, arith}
 use Rattle.cells.specs.Cells.{nothing}
 use Rattle.transfer.specs.Rows.{initial_cells}
 use Rattle.transfer.proofs.Vacant.{vacant-here, vacant-further, vacant-nowhere}

@@ -1,4 +1,4 @@
-use Rattle.std.proofs.Common.{◌≡◌, ℕ, List, length, ℤ, ap, ◌∙◌, subst}
+use Rattle.std.proofs.Common.{◌≡◌, List, length, ℤ, ap, ◌∙◌, subst}
 use Rattle.controller.specs.declared.call.Call.{Call}
 use Rattle.controller.specs.Machine.{machine, code_of, Request, request_of, to_read, reply, output, Replied}
 use Rattle.controller.proofs.Laws.{read_keeps}

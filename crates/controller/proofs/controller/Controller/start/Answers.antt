@@ -1,4 +1,3 @@
-use Rattle.std.proofs.Common.{rules}
 use Rattle.controller.specs.Machine.{machine, code_of, to_start, reply}
 use Rattle.controller.proofs.Laws.{start-laws, start_of}
 use Rattle.controller.proofs.controller.Controller.start.Goals as goal

@@ -1,4 +1,4 @@
-use Rattle.std.proofs.Common.{◌≡◌, sym, ◌∙◌}
+use Rattle.std.proofs.Common.{sym, ◌∙◌}
 use Rattle.controller.proofs.Slots.{read-within, read_past}
 use Rattle.controller.proofs.registers.access.read.Goals as goal
 

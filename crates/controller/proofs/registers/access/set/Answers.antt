@@ -1,4 +1,4 @@
-use Rattle.std.proofs.Common.{◌≡◌, true, false}
+use Rattle.std.proofs.Common.{true}
 use Rattle.cells.specs.declared.value.Value.TheVariants.{Bool}
 use Rattle.controller.proofs.Slots.{stored-within, stored_past}
 use Rattle.controller.proofs.registers.access.set.Goals as goal

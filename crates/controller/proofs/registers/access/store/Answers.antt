@@ -1,5 +1,3 @@
-use Rattle.std.proofs.Common.{◌≡◌, true, false}
-use Rattle.cells.specs.declared.value.Value.TheVariants.{Bool}
 use Rattle.controller.proofs.Slots.{stored-within, stored_past}
 use Rattle.controller.proofs.registers.access.store.Goals as goal
 

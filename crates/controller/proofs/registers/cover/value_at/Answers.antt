@@ -1,4 +1,4 @@
-use Rattle.std.proofs.Common.{◌≡◌, ℕ, ◌∷◌, get_or, sym, ap, ◌∙◌}
+use Rattle.std.proofs.Common.{ℕ, ◌∷◌, get_or, sym, ap, ◌∙◌}
 use Rattle.cells.specs.declared.value.Value.TheVariants.{Unset}
 use Rattle.controller.specs.Registers.{values_in}
 use Rattle.controller.proofs.Covers.{get_d_after}

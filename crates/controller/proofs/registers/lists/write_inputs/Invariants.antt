@@ -1,6 +1,6 @@
 use Rattle.std.proofs.Common.{◌≡◌, ◌≤◌, ◌++◌, take, drop}
 use Rattle.controller.specs.Registers.{values_in}
-use Rattle.controller.specs.Lists.{goal as given_to}
+use Rattle.controller.specs.Lists.{given as given_to}
 use Rattle.controller.proofs.registers.lists.write_inputs.Given as goal
 
 abbrev pub invariant-loop-i : goal.invariant-loop-i
