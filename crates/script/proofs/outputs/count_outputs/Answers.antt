@@ -7,7 +7,7 @@ use Rattle.script.proofs.outputs.count_outputs.Goals as goal
 pub loop-i-preserved : goal.loop-i-preserved
 loop-i-preserved c =
     let m = at_drop_more output_count c.args.variables.now c.loop-i.i no_variable c.loop-i-test.true in
-    let e = c.one-count.ensures.is ∙ ap one c.is-output.ensures in
+    let e = c.one-count.ensures.is ∙ ap one c.is_output.ensures in
     (omega (arith, c.loop-i.invariant.0), omega (arith, c.loop-i.invariant.1, c.one-count.ensures.most))
 
 pub returns : goal.returns

@@ -10,7 +10,7 @@ loop-number-preserved c =
     let ns : List ℤ = c.args.outputs.now in
     let i = c.loop-number.number-index in
     let fits : SFits w32 (get_or ns i (pos 0)) = search rules in
-    c.in-ok-push-output.ensures
+    c.in_ok-push_output.ensures
     ∙ ap (with_output (string_bytes c.loop-number.out)) (to_z-of_z w32 _ fits)
     ∙ ap (λ t. with_output t (get_or ns i (pos 0))) c.loop-number.invariant
     ∙ sym (fold_more with_output (codes "read") ns i (pos 0) c.loop-number-test.true)

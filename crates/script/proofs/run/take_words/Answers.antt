@@ -10,8 +10,8 @@ use Rattle.script.proofs.Turns.{words-none, text-ended, unfit, word_on, word-ref
 use Rattle.script.proofs.Courses.{closed-machine, closed-text, acted-is, course-none, course-ended, course-unfit, course-on, course-refused}
 use Rattle.script.proofs.run.take_words.Goals as goal
 
-pub take-word-requires : goal.take-word-requires
-take-word-requires g c = c.requires ∙ ap (λ k. output_count k.variables) (sym c.loop-left.invariant.3)
+pub take_word-requires : goal.take_word-requires
+take_word-requires g c = c.requires ∙ ap (λ k. output_count k.variables) (sym c.loop-left.invariant.3)
 
 pub returns-in-Err : goal.returns-in-Err
 returns-in-Err g c =
@@ -28,20 +28,20 @@ returns-in-Err g c =
 
 pub returns-in-None : goal.returns-in-None
 returns-in-None g c =
-    let s = ap (λ t. next_at t c.loop-left.reader.place) (sym c.loop-left.invariant.0) ∙ sym (ap (λ o. answered (Ok o) c.next-word.new.self.place) (sym c.in-None.is) ∙ c.in-Ok.ensures.is) in
+    let s = ap (λ t. next_at t c.loop-left.reader.place) (sym c.loop-left.invariant.0) ∙ sym (ap (λ o. answered (Ok o) c.next_word.new.self.place) (sym c.in-None.is) ∙ c.in-Ok.ensures.is) in
     let e = course-ended g.D.Domain.ops (code_of c.args.controller.now) c.args.cells.now c.args.text.now c.loop-left.reader.place c.loop-left.pending (course (vec_items c.loop-left.numbers) (machine c.loop-left.controller) (string_bytes c.loop-left.out)) _ c.loop-left.left c.loop-left.invariant.2 c.loop-left-test.true s in
     record {
       refusal = text-ended c.args.text.now c.loop-left.reader.place c.loop-left.pending _ c.loop-left.left c.loop-left.invariant.1 c.loop-left-test.true s;
       machine = closed-machine g.D.Domain.ops _ c.args.cells.now c.loop-left.pending _ _ (string_bytes c.loop-left.out) _ c.loop-left.invariant.3 _ c.deref.ensures.value _ c.finish.ensures.machine ∙ ap (λ d. d.machine) e;
-      text = closed-text g.D.Domain.ops _ c.args.cells.now c.loop-left.pending _ _ (string_bytes c.loop-left.out) _ c.loop-left.invariant.3 _ c.deref.ensures.value _ c.in-ok-finish.ensures.text ∙ ap (λ d. d.text) e;
+      text = closed-text g.D.Domain.ops _ c.args.cells.now c.loop-left.pending _ _ (string_bytes c.loop-left.out) _ c.loop-left.invariant.3 _ c.deref.ensures.value _ c.in_ok-finish-in-None.ensures.text ∙ ap (λ d. d.text) e;
     }
 
 pub returns-in-Refused : goal.returns-in-Refused
 returns-in-Refused g c =
-    let s = ap (λ t. next_at t c.loop-left.reader.place) (sym c.loop-left.invariant.0) ∙ sym (ap (λ o. answered (Ok o) c.next-word.new.self.place) (sym c.in-Some.is) ∙ c.in-Ok.ensures.is) in
-    let f = sym c.in-Refused.is ∙ c.in-ok-flow.ensures.flow in
+    let s = ap (λ t. next_at t c.loop-left.reader.place) (sym c.loop-left.invariant.0) ∙ sym (ap (λ o. answered (Ok o) c.next_word.new.self.place) (sym c.in-Some.is) ∙ c.in-Ok.ensures.is) in
+    let f = sym c.in-Refused.is ∙ c.in_ok-flow-in-Some.ensures.flow in
     let e = course-refused g.D.Domain.ops (code_of c.args.controller.now) c.args.cells.now c.args.text.now c.loop-left.reader.place c.loop-left.pending (course (vec_items c.loop-left.numbers) (machine c.loop-left.controller) (string_bytes c.loop-left.out)) _ c.loop-left.left c.loop-left.invariant.2 c.loop-left-test.true _ _ _ s _ f in
-    let d = acted-is g.D.Domain.ops (code_of c.args.controller.now) c.args.cells.now c.loop-left.pending (act_on c.loop-left.pending (seen c.in-Some.word)) (course (vec_items c.loop-left.numbers) (machine c.loop-left.controller) (string_bytes c.loop-left.out)) (code_of c.loop-left.controller) c.loop-left.invariant.3 _ _ _ c.in-ok-flow.ensures.course in
+    let d = acted-is g.D.Domain.ops (code_of c.args.controller.now) c.args.cells.now c.loop-left.pending (act_on c.loop-left.pending (seen c.in-Some.word)) (course (vec_items c.loop-left.numbers) (machine c.loop-left.controller) (string_bytes c.loop-left.out)) (code_of c.loop-left.controller) c.loop-left.invariant.3 _ _ _ c.in_ok-flow-in-Some.ensures.course in
     record {
       refusal = word-refused c.args.text.now c.loop-left.reader.place c.loop-left.pending _ c.loop-left.left c.loop-left.invariant.1 c.loop-left-test.true _ _ _ s _ f;
       machine = ap (λ x. x.machine) (d ∙ e);
@@ -50,13 +50,13 @@ returns-in-Refused g c =
 
 pub loop-left-preserved : goal.loop-left-preserved
 loop-left-preserved g c =
-    let s = ap (λ t. next_at t c.loop-left.reader.place) (sym c.loop-left.invariant.0) ∙ sym (ap (λ o. answered (Ok o) c.next-word.new.self.place) (sym c.in-Some.is) ∙ c.in-Ok.ensures.is) in
-    let f = sym c.in-On.is ∙ c.in-ok-flow.ensures.flow in
-    let d = acted-is g.D.Domain.ops (code_of c.args.controller.now) c.args.cells.now c.loop-left.pending (act_on c.loop-left.pending (seen c.in-Some.word)) (course (vec_items c.loop-left.numbers) (machine c.loop-left.controller) (string_bytes c.loop-left.out)) (code_of c.loop-left.controller) c.loop-left.invariant.3 _ _ _ c.in-ok-flow.ensures.course in (
-      c.next-word.ensures.text ∙ c.loop-left.invariant.0,
+    let s = ap (λ t. next_at t c.loop-left.reader.place) (sym c.loop-left.invariant.0) ∙ sym (ap (λ o. answered (Ok o) c.next_word.new.self.place) (sym c.in-Some.is) ∙ c.in-Ok.ensures.is) in
+    let f = sym c.in-On.is ∙ c.in_ok-flow-in-Some.ensures.flow in
+    let d = acted-is g.D.Domain.ops (code_of c.args.controller.now) c.args.cells.now c.loop-left.pending (act_on c.loop-left.pending (seen c.in-Some.word)) (course (vec_items c.loop-left.numbers) (machine c.loop-left.controller) (string_bytes c.loop-left.out)) (code_of c.loop-left.controller) c.loop-left.invariant.3 _ _ _ c.in_ok-flow-in-Some.ensures.course in (
+      c.next_word.ensures.text ∙ c.loop-left.invariant.0,
       word_on c.args.text.now c.loop-left.reader.place c.loop-left.pending _ c.loop-left.left c.loop-left.invariant.1 c.loop-left-test.true _ _ _ s _ f,
       course-on g.D.Domain.ops (code_of c.args.controller.now) c.args.cells.now c.args.text.now c.loop-left.reader.place c.loop-left.pending (course (vec_items c.loop-left.numbers) (machine c.loop-left.controller) (string_bytes c.loop-left.out)) _ c.loop-left.left c.loop-left.invariant.2 c.loop-left-test.true _ _ _ s _ f _ d,
-      c.take-word.ensures.code ∙ c.loop-left.invariant.3,
+      c.take_word.ensures.code ∙ c.loop-left.invariant.3,
     )
 
 pub returns : goal.returns
@@ -65,5 +65,5 @@ returns g c =
     record {
       refusal = words-none c.args.text.now c.loop-left.reader.place c.loop-left.pending _ c.loop-left.left c.loop-left.invariant.1 c.loop-left-test.false;
       machine = closed-machine g.D.Domain.ops _ c.args.cells.now c.loop-left.pending _ _ (string_bytes c.loop-left.out) _ c.loop-left.invariant.3 _ c.deref-2.ensures.value _ c.finish-2.ensures.machine ∙ ap (λ d. d.machine) e;
-      text = closed-text g.D.Domain.ops _ c.args.cells.now c.loop-left.pending _ _ (string_bytes c.loop-left.out) _ c.loop-left.invariant.3 _ c.deref-2.ensures.value _ c.in-ok-finish-2.ensures.text ∙ ap (λ d. d.text) e;
+      text = closed-text g.D.Domain.ops _ c.args.cells.now c.loop-left.pending _ _ (string_bytes c.loop-left.out) _ c.loop-left.invariant.3 _ c.deref-2.ensures.value _ c.in_ok-finish.ensures.text ∙ ap (λ d. d.text) e;
     }

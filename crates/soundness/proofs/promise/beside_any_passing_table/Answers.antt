@@ -10,9 +10,9 @@ returns g c =
     let p = code c.args.program.now in
     let formed = c.variables.ensures.formed in
     record {
-      steps-stay-covered = steps-stay-covered o p formed law;
-      stops-are-marked = stops-are-marked o p formed law;
-      reachable-covered = reachable-covered o law p formed;
-      runs-reach = runs-reach o p formed;
-      calls-are-runs = calls-are-runs o p;
+      steps_stay_covered = steps-stay-covered o p formed law;
+      stops_are_marked = stops-are-marked o p formed law;
+      reachable_covered = reachable-covered o law p formed;
+      runs_reach = runs-reach o p formed;
+      calls_are_runs = calls-are-runs o p;
     }
