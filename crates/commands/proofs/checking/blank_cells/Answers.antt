@@ -14,7 +14,7 @@ grown new n l x en el =
 
 pub returns : goal.returns
 returns g c =
-    let a = c.in-ok-resize.ensures in
+    let a = c.in_ok-resize.ensures in
     let ss = (code c.args.program.now).statements in
     let x = c.nothing.result in
     let none = nothing g.D.Domain.ops in

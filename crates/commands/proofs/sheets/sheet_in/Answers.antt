@@ -7,7 +7,7 @@ use Rattle.commands.proofs.sheets.sheet_in.Goals as goal
 
 pub returns-in-Some : goal.returns-in-Some
 returns-in-Some g c =
-    early-refusal c.in-ok-early.early c.in-Some.answer c.args.input.now (memory c.read-program.result)
+    early-refusal c.in_ok-early.early c.in-Some.answer c.args.input.now (memory c.read-program.result)
     (read_memory (reading c.args.text.now (length c.args.variables.now) (length c.args.statements.now)))
     (λ (m : Memory). sheet_ready g.D.Domain.ops c.args.sweeps (code_in (readied c.args.input.now m)))
-    c.in-ok-early.ensures.is c.in-Some.is c.read-program.ensures.is
+    c.in_ok-early.ensures.is c.in-Some.is c.read-program.ensures.is
