@@ -6,6 +6,7 @@ use commands::help::USAGE;
 use options::parse;
 use options::request::{Job, Options, Request};
 use std::io::Read;
+use std::process::ExitCode;
 use std::{env, fs, io};
 
 fn arguments(rt: &HostRuntime) -> io::Result<Vec<String>> {
@@ -73,12 +74,20 @@ fn carry_out(rt: &HostRuntime, request: Request, words: &[String]) -> io::Result
     }
 }
 
-fn main(rt: HostRuntime) -> io::Result<()> {
-    match arguments(&rt) {
-        Err(_) => wrong_use(&rt),
+fn run(rt: &HostRuntime) -> io::Result<()> {
+    match arguments(rt) {
+        Err(_) => wrong_use(rt),
         Ok(words) => match parse(&words) {
-            Err(_) => wrong_use(&rt),
-            Ok(request) => carry_out(&rt, request, &words),
+            Err(_) => wrong_use(rt),
+            Ok(request) => carry_out(rt, request, &words),
         },
+    }
+}
+
+// What there is to say has been said, so an error is told by the status alone.
+fn main(rt: HostRuntime) -> ExitCode {
+    match run(&rt) {
+        Ok(()) => ExitCode::SUCCESS,
+        Err(_) => ExitCode::FAILURE,
     }
 }
