@@ -11,7 +11,7 @@ use Rattle.transfer.specs.Rows.{width}
 use Rattle.table.specs.Tables.{table_size}
 use Rattle.table_text.specs.declared.fault.TableFault.{TableFault}
 use Rattle.table_text.specs.Faults.{table_number, table_place}
-use Rattle.table_text.specs.Table.{Outcome, table_read}
+use Rattle.table_text.specs.Table.{table_read}
 use Rattle.table_check.specs.declared.fault.CheckFault.{CheckFault}
 use Rattle.table_check.specs.Faults.{number_of, place_of}
 use Rattle.table_check.specs.Sheets.{Shown, checked}

@@ -1,5 +1,5 @@
 -- What the laws alone give of the join of one-number spans.
-use Rattle.std.proofs.Common.{◌≡◌, Bool, true, false, List, [], ◌∷◌, ℤ, pos, fold, sym, refl, ap, ◌∙◌}
+use Rattle.std.proofs.Common.{◌≡◌, true, List, [], ◌∷◌, ℤ, pos, fold, refl}
 use lib.Signed.{≤ℤ_refl, lt_z_yes}
 use Rattle.std.specs.List.{AllByRecursion as All}
 use Rattle.numbers.specs.Int.{is_int}

@@ -1,5 +1,5 @@
 -- When rows with new cells are unreachable, and rows that a fall-through leaves as they are.
-use Rattle.std.proofs.Common.{◌≡◌, ℕ, zero, suc, ◌+◌, ◌*◌, ◌<◌, ◌≤◌, Bool as Truth, true, false, cond, not, ◌||◌, List, [], ◌∷◌, length, get_or, take, drop, set, Some, None, Option, sym, refl, ap, ◌∙◌, add-mul, one-mul, add-one, arith, length-set}
+use Rattle.std.proofs.Common.{◌≡◌, ℕ, zero, suc, ◌+◌, ◌*◌, ◌<◌, ◌≤◌, Bool as Truth, true, false, not, ◌||◌, List, [], ◌∷◌, length, get_or, take, drop, set, Some, None, Option, sym, refl, ap, ◌∙◌, add-mul, one-mul, add-one, arith, length-set}
 use Rattle.std.proofs.lemmas.List.{take-set-le, drop-take, set_past}
 use Rattle.std.proofs.lemmas.Bool.{or_parts, cond_both}
 use Rattle.domain.specs.Domain.{Ops}

@@ -1,7 +1,7 @@
 -- A table that a sweep leaves as it is has no failure.
-use Rattle.std.proofs.Common.{◌≡◌, ℕ, zero, suc, ◌+◌, ◌*◌, Bool as Truth, true, false, cond, not, ◌||◌, List, [], ◌∷◌, length, get_or, set, Some, None, Option, sym, refl, ap, ◌∙◌, arith}
+use Rattle.std.proofs.Common.{◌≡◌, ℕ, ◌+◌, ◌*◌, Bool as Truth, true, false, cond, not, ◌||◌, List, [], ◌∷◌, get_or, set, Some, None, Option, sym, refl, ap, ◌∙◌}
 use lib.Seq.{set-get_or}
-use Rattle.std.proofs.lemmas.Bool.{or_parts, not-false, cond-true, cond-false, cond_both}
+use Rattle.std.proofs.lemmas.Bool.{or_parts, not-false, cond-true}
 use Rattle.domain.specs.Domain.{Ops}
 use Rattle.syntax.specs.declared.record.Operation.{Operation}
 use Rattle.syntax.specs.declared.record.Statement.{Statement}

@@ -1,5 +1,5 @@
 -- The ways on from a statement of a program lead to its statements.
-use Rattle.std.proofs.Common.{◌≡◌, ℕ, ◌+◌, ◌*◌, ◌<◌, ◌≤◌, Bool as Truth, true, false, cond, ◌||◌, List, [], ◌∷◌, length, get_or, is_some, Some, None, Option, sym, refl, ap, ◌∙◌, inl, inr, arith}
+use Rattle.std.proofs.Common.{◌≡◌, ℕ, ◌+◌, ◌*◌, ◌<◌, ◌≤◌, true, false, cond, ◌||◌, List, length, get_or, is_some, Some, None, Option, sym, ap, ◌∙◌, inl, inr, arith}
 use Rattle.std.proofs.lemmas.List.{get_or_past}
 use Rattle.std.proofs.lemmas.Bool.{cases_lt, cond_both}
 use Rattle.domain.specs.Domain.{Ops}
@@ -16,7 +16,7 @@ use Rattle.cells.specs.Cells.{is_vacant}
 use Rattle.meaning.specs.declared.edge.Edge.{Edge}
 use Rattle.meaning.specs.declared.edge.Edge.TheVariants as way
 use Rattle.transfer.specs.Rows.{width}
-use Rattle.transfer.specs.Transfer.{left_of, right_of, carried, carried_by, target_of}
+use Rattle.transfer.specs.Transfer.{left_of, right_of, carried, target_of}
 use Rattle.table.specs.Tables.{operation_at}
 use Rattle.fixpoint.proofs.Places.{row_fits}
 

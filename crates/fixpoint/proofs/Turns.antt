@@ -1,5 +1,5 @@
 -- One turn of bringing a row in place, and the rows that changes stand for.
-use Rattle.std.proofs.Common.{◌≡◌, ℕ, ◌+◌, ◌*◌, ◌<◌, ◌≤◌, Bool as Truth, true, false, cond, not, ◌||◌, ltb, ◌≢◌, List, [], ◌∷◌, length, get_or, drop, set, Some, None, Option, sym, refl, ap, ◌∙◌, inl, inr, zero-mul, arith}
+use Rattle.std.proofs.Common.{◌≡◌, ℕ, ◌+◌, ◌*◌, ◌<◌, ◌≤◌, Bool as Truth, true, false, not, ◌||◌, ltb, ◌≢◌, List, [], ◌∷◌, length, get_or, drop, set, Option, sym, refl, ap, ◌∙◌, inl, inr, zero-mul, arith}
 use Rattle.std.proofs.lemmas.List.{at_drop_more, at_drop_all, get_or_default, set-set, set_comm, set-get_or}
 use Rattle.std.proofs.lemmas.Bool.{cond-true, cond-false, cases_lt, lt-ltb, le-ltb, true≢false, or_right}
 use Rattle.domain.specs.Domain.{Ops}

@@ -1,5 +1,5 @@
 -- Sweeps from a table that allows nothing up to the first in which every cell takes in what comes.
-use Rattle.std.specs.Prelude.{◌≡◌, ℕ, zero, suc, ◌+◌, Bool as Truth, true, false, cond, List, length, Ok, Err, Result, ◌==◌}
+use Rattle.std.specs.Prelude.{◌≡◌, ℕ, zero, suc, ◌+◌, cond, List, length, Ok, Err, Result, ◌==◌}
 use Rattle.domain.specs.Domain.{Ops}
 use Rattle.program.specs.Model.{Code}
 use Rattle.cells.specs.declared.cell.Cell.{Cell}

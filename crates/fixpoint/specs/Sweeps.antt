@@ -1,5 +1,5 @@
 -- A sweep: the start row and then each row, carried along its ways on as the check carries it, is brought to the rows that it comes to.
-use Rattle.std.specs.Prelude.{ℕ, ◌+◌, ◌*◌, Bool as Truth, true, false, cond, ◌||◌, List, [], ◌∷◌, Some, None, Option, nat_le}
+use Rattle.std.specs.Prelude.{ℕ, ◌+◌, ◌*◌, Bool as Truth, false, cond, ◌||◌, List, [], ◌∷◌, Some, None, Option, nat_le}
 use Rattle.domain.specs.Domain.{Ops}
 use Rattle.program.specs.Model.{Code}
 use Rattle.syntax.specs.declared.record.Operation.{Operation}

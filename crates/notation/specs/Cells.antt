@@ -1,5 +1,5 @@
 -- Cells, and the lines of a sheet, as text.
-use Rattle.std.specs.Prelude.{ℕ, Bool, cond, ◌&&◌, ◌||◌, List, [], ◌∷◌, ◌++◌, length, drop, pos, Some, None, codes, decimal, fold, Option, ◌==◌, nat_lt, slice_index}
+use Rattle.std.specs.Prelude.{ℕ, Bool, cond, ◌&&◌, ◌||◌, List, [], ◌++◌, length, drop, pos, Some, None, codes, decimal, fold, Option, ◌==◌, nat_lt, slice_index}
 use Rattle.std.specs.Str.{bytes_eq}
 use Rattle.domain.specs.Domain.{Ops}
 use Rattle.cells.specs.declared.cell.Cell.{Cell}

@@ -1,5 +1,5 @@
 -- Intervals as text: `low..high`.
-use Rattle.std.specs.Prelude.{ℕ, ◌+◌, Bool, cond, not, ◌&&◌, List, [], ◌∷◌, ◌++◌, length, take, drop, ℤ, Some, None, codes, Option, ◌==◌, int_lt, nat_lt, slice_index}
+use Rattle.std.specs.Prelude.{ℕ, ◌+◌, cond, not, ◌&&◌, List, [], ◌++◌, length, take, drop, ℤ, Some, None, codes, Option, ◌==◌, int_lt, nat_lt, slice_index}
 use Rattle.std.specs.Fmt.{signed_decimal}
 use Rattle.std.specs.List.{prefix_len}
 use Rattle.interval.specs.declared.Interval.{Interval}

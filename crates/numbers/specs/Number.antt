@@ -1,5 +1,5 @@
 -- The value of a number word: digits, or a minus and digits, as many as there are.
-use Rattle.std.specs.Prelude.{ℕ, ◌+◌, ◌-◌, ◌*◌, Bool, cond, List, [], ◌∷◌, ℤ, pos, neg_ℤ, fold, Option, ◌==◌}
+use Rattle.std.specs.Prelude.{ℕ, ◌+◌, ◌-◌, ◌*◌, cond, List, [], ◌∷◌, ℤ, pos, neg_ℤ, fold, Option, ◌==◌}
 use Rattle.numbers.specs.Int.{in_int}
 
 -- the number that decimal digits write; 48 is the byte of the digit 0

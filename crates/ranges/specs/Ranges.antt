@@ -3,11 +3,10 @@ use Rattle.std.specs.Prelude.{◌≡◌, ℕ, zero, suc, ◌+◌, cond, List, le
 use Rattle.numbers.specs.Number.{int_of}
 use Rattle.words.specs.declared.word.WordFault.{WordFault}
 use Rattle.words.specs.Words.{Lexeme, name, number, colon, semicolon, assign, next_at}
-use Rattle.program.specs.Model.{Memory, Setting, ranging}
+use Rattle.program.specs.Model.{Memory, ranging}
 use Rattle.reading.specs.declared.fault.RangeFault.{RangeFault}
 use Rattle.ranges.specs.declared.fault.RangesFault.{RangesFault}
 use Rattle.ranges.specs.declared.fault.RangesFault.TheVariants.{TooLong, Word, Misfit, Range}
-use Rattle.ranges.specs.declared.take.Input.{Input}
 use Rattle.ranges.specs.declared.take.Awaiting.{Awaiting}
 use Rattle.ranges.specs.declared.take.Awaiting.TheVariants.{Position, Low, High}
 

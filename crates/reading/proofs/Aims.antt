@@ -8,7 +8,7 @@ use Rattle.syntax.specs.declared.record.Statement.{Statement}
 use Rattle.syntax.specs.Records.{no_statement}
 use Rattle.reading.specs.declared.fault.ProgramFault.{ProgramFault}
 use Rattle.reading.specs.Names.{label_name, label_of, same_as, found}
-use Rattle.reading.specs.Reading.{onward, aimed, aimed_at, aimed_statement, aimed_all, label_in}
+use Rattle.reading.specs.Reading.{onward, aimed, aimed_at, aimed_statement, aimed_all}
 
 -- two ways to find labels that agree aim a statement alike
 module _ (f g : Name → Option ℕ) (same : (name : Name) → f name ≡ g name) where

@@ -1,5 +1,5 @@
 -- The fault that reading tells is the first that the text has; a text that is read has none.
-use Rattle.std.proofs.Common.{◌≡◌, ℕ, zero, suc, ◌+◌, ◌<◌, ◌≤◌, Bool, true, false, cond, ltb, ◌⊎◌, List, [], ◌∷◌, ◌++◌, length, get_or, take, drop, IfErr, Some, None, Ok, Err, Option, Result, sym, refl, ap, ◌∙◌, subst, inl, inr, ⊎_elim, arith, MatchResult}
+use Rattle.std.proofs.Common.{◌≡◌, ℕ, zero, suc, ◌<◌, ◌≤◌, Bool, true, false, cond, ltb, List, [], ◌∷◌, ◌++◌, length, get_or, drop, IfErr, Some, None, Ok, Err, Option, Result, sym, refl, ap, ◌∙◌, subst, inl, inr, ⊎_elim, arith, MatchResult}
 use Rattle.std.proofs.lemmas.Bool.{ltb-true, ltb-false, cases_lt, cond-true, true≢false}
 use Rattle.syntax.specs.declared.operator.Jump.{Jump as JumpOperator}
 use Rattle.syntax.specs.declared.record.Name.{Name}
@@ -13,9 +13,9 @@ use Rattle.reading.specs.declared.fault.ProgramFault.TheVariants as program
 use Rattle.reading.specs.Faults.{program_number, program_place}
 use Rattle.reading.specs.Drafts.{Draft, draft_of, statements_in}
 use Rattle.reading.specs.Statements.{step_from}
-use Rattle.reading.specs.Reading.{onward, taken, blank_draft, ends_with_return, aimed, aimed_at, aimed_statement, aimed_all, label_in, ended as ended_statements, finished, program_in, answered_by, reading}
+use Rattle.reading.specs.Reading.{onward, taken, blank_draft, ends_with_return, aimed, aimed_at, aimed_statement, aimed_all, label_in, finished, answered_by, reading}
 use Rattle.reading.specs.FirstFault.{Begins, Stops, Makes, HasFault, too_long, at_word, no_return, no_label, NotBehind, First, FirstFault}
-use Rattle.reading.proofs.Turns.{Left, ended}
+use Rattle.reading.proofs.Turns.{ended}
 use Rattle.reading.proofs.Words.{begins-left, Answered, stops-answered, Stopped, words-come}
 use Rattle.reading.proofs.Whole.{aimed-each}
 

@@ -5,7 +5,6 @@ use Rattle.numbers.specs.Int.{is_int}
 use Rattle.numbers.specs.Number.{written}
 use Rattle.words.specs.declared.word.WordFault.{WordFault}
 use Rattle.words.specs.Words.{Lexeme, name, number, colon, semicolon, assign, next_at}
-use Rattle.syntax.specs.declared.operator.Command.{Command}
 use Rattle.syntax.specs.declared.record.Constant.{Constant}
 use Rattle.syntax.specs.declared.record.Constant.TheVariants.{Bool as bool, Int}
 use Rattle.syntax.specs.declared.record.Kind.{Kind as KindOf}

@@ -3,17 +3,12 @@ use Rattle.std.proofs.Common.{◌≡◌, ℕ, ◌<◌, Bool, true, false, cond, 
 use Rattle.std.proofs.lemmas.Bool.{ltb-true}
 use Rattle.syntax.specs.declared.operator.Command.{Command}
 use Rattle.syntax.specs.declared.operator.Command.TheVariants as c
-use Rattle.syntax.specs.declared.record.Class.{Class}
-use Rattle.syntax.specs.declared.record.Kind.{Kind as KindOf}
 use Rattle.syntax.specs.declared.record.Constant.{Constant}
 use Rattle.syntax.specs.declared.record.Constant.TheVariants.{Bool as bool, Int}
 use Rattle.syntax.specs.declared.record.Declaration.{Declaration}
 use Rattle.syntax.specs.declared.record.Name.{Name}
 use Rattle.syntax.specs.declared.record.Operation.{Operation}
-use Rattle.syntax.specs.declared.token.Sign.{Sign}
-use Rattle.syntax.specs.declared.token.Sign.TheVariants as g
 use Rattle.syntax.specs.declared.token.Token.{Token}
-use Rattle.syntax.specs.declared.token.Token.TheVariants as t
 use Rattle.syntax.specs.declared.grammar.Stage.{Stage}
 use Rattle.syntax.specs.declared.grammar.Stage.TheVariants.{Blocks, Block, VariableColon, Kind, AfterKind, Initial, Semicolon, Body, LabelColon, Value, Storage, Destination}
 use Rattle.syntax.specs.declared.grammar.Step.{Step}
@@ -22,7 +17,7 @@ use Rattle.syntax.specs.Grammar.{begun, followed}
 use Rattle.reading.specs.declared.fault.StatementFault.{StatementFault}
 use Rattle.reading.specs.declared.fault.ProgramFault.{ProgramFault}
 use Rattle.reading.proofs.Sorts.{by_token}
-use Rattle.reading.specs.Drafts.{Draft, entered, room_for_variables, room_for_statements, if_variable_fits, if_statement_fits, is_known, begun_with, completed, completed_by, variable_at, declared_in, applied}
+use Rattle.reading.specs.Drafts.{Draft, entered, room_for_variables, room_for_statements, is_known, begun_with, completed_by, variable_at, declared_in, applied}
 
 abbrev pub VariableFits : Draft → Type 0
 VariableFits d = d.progress.variables < room_for_variables d

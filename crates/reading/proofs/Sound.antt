@@ -1,6 +1,5 @@
 -- A draft stays sound: what its statements name is declared, its ranges are in order, and the records beyond it are blank.
-use Rattle.std.proofs.Common.{◌≡◌, ℕ, zero, suc, ◌+◌, ◌<◌, ◌≤◌, min, Bool, true, false, cond, ltb, ◌≢◌, ◌⊎◌, List, [], ◌∷◌, length, get_or, take, set, replicate, IfOk, Some, None, Ok, Err, Option, Result, sym, refl, ap, ◌∙◌, subst, inl, inr, ⊎_elim, arith}
-use lib.Signed.{le_z}
+use Rattle.std.proofs.Common.{◌≡◌, ℕ, zero, suc, ◌+◌, ◌<◌, ◌≤◌, Bool, true, false, cond, ltb, List, [], ◌∷◌, length, get_or, set, replicate, IfOk, Some, None, Ok, Err, Option, Result, sym, refl, ap, ◌∙◌, subst, ⊎_elim, arith}
 use Rattle.std.proofs.lemmas.List.{length-set, length-take-le, length-replicate, get_or-set_same, get_or-set_other, get_or-replicate, get_or_past}
 use Rattle.std.proofs.lemmas.Bool.{ltb-true, lt-ltb, cases_eq, cases_lt}
 use Rattle.syntax.specs.declared.operator.Command.{Command}
@@ -19,7 +18,7 @@ use Rattle.syntax.specs.Records.{no_variable, no_statement, declared_as}
 use Rattle.reading.specs.declared.fault.StatementFault.{StatementFault}
 use Rattle.reading.specs.declared.fault.ProgramFault.{ProgramFault}
 use Rattle.reading.specs.Names.{variable_name, has_name, found}
-use Rattle.reading.specs.Drafts.{Draft, entered, with_variable, with_statement, if_variable_fits, if_statement_fits, is_known, if_new, begun_with, completed, completed_by, as_variable, variable_at, declared_in, applied, room_for_variables, room_for_statements}
+use Rattle.reading.specs.Drafts.{Draft, entered, with_variable, with_statement, if_variable_fits, if_statement_fits, is_known, begun_with, completed, completed_by, as_variable, variable_at, declared_in, applied, room_for_variables, room_for_statements}
 use Rattle.reading.specs.Statements.{step_at}
 use Rattle.reading.specs.Reading.{onward, go_on, taken_from, blank_draft}
 use Rattle.reading.specs.Formed.{is_proper, operand_in, in_order}

@@ -1,5 +1,5 @@
 -- One turn of taking the words of a text.
-use Rattle.std.proofs.Common.{◌≡◌, ℕ, zero, suc, ◌-◌, ◌<◌, ◌≤◌, List, length, Some, None, Ok, Err, Result, sym, refl, ap, ◌∙◌, arith}
+use Rattle.std.proofs.Common.{◌≡◌, ℕ, zero, suc, ◌-◌, ◌<◌, ◌≤◌, List, length, Some, None, Ok, Err, Result, sym, ap, ◌∙◌, arith}
 use Rattle.syntax.specs.declared.record.Name.{Name}
 use Rattle.syntax.specs.declared.grammar.Step.{Step}
 use Rattle.reading.specs.declared.fault.StatementFault.{StatementFault}

@@ -1,7 +1,7 @@
 -- A program that reading gives is whole: it names only what is there, ends with RET, and leaves the other records blank.
-use Rattle.std.proofs.Common.{◌≡◌, ℕ, zero, suc, ◌+◌, ◌-◌, ◌<◌, ◌≤◌, Bool, true, false, cond, ◌&&◌, ltb, List, [], ◌∷◌, ◌++◌, length, get_or, take, drop, is_some, IfOk, Some, None, Ok, Err, Option, Result, sym, refl, ap, ◌∙◌, subst, ⊎_elim, arith}
+use Rattle.std.proofs.Common.{◌≡◌, ℕ, zero, suc, ◌+◌, ◌-◌, ◌<◌, Bool, true, false, cond, ltb, List, [], ◌∷◌, ◌++◌, length, get_or, take, drop, is_some, IfOk, Some, None, Ok, Err, Option, Result, sym, refl, ap, ◌∙◌, subst, ⊎_elim, arith}
 use Rattle.std.proofs.lemmas.List.{length-take-le, length-append, get_or-take, get_or-drop, get_or_past, get_or-append_right, take_at}
-use Rattle.std.proofs.lemmas.Bool.{ltb-true, cases_lt, and_parts}
+use Rattle.std.proofs.lemmas.Bool.{cases_lt, and_parts}
 use Rattle.syntax.specs.declared.record.Name.{Name}
 use Rattle.syntax.specs.declared.record.Operation.{Operation}
 use Rattle.syntax.specs.declared.record.Operation.TheVariants.{Return, Not, Label, Apply, Store, Jump}
@@ -11,8 +11,8 @@ use Rattle.reading.specs.declared.fault.ProgramFault.{ProgramFault}
 use Rattle.reading.specs.declared.fault.ProgramFault.TheVariants.{NoReturn, TooLong}
 use Rattle.reading.specs.Names.{label_name, same_as, has_name, found}
 use Rattle.reading.specs.Drafts.{Draft, draft_of}
-use Rattle.reading.specs.Reading.{onward, aimed, aimed_at, aimed_statement, aimed_all, label_in, is_return, ends_with_return, ended, finished, taken, program_in, answered_by, reading, blank_draft}
-use Rattle.reading.specs.Formed.{names_only, in_order, Whole, Returning, Formed, Filled}
+use Rattle.reading.specs.Reading.{onward, aimed, aimed_at, aimed_statement, aimed_all, label_in, is_return, ends_with_return, finished, taken, answered_by, reading, blank_draft}
+use Rattle.reading.specs.Formed.{names_only, in_order, Whole, Returning, Filled}
 use Rattle.reading.proofs.Aims.{aimed-label}
 use Rattle.reading.proofs.Sound.{Sound, SoundAnswer, declared_only, sound-taken, sound-blank}
 

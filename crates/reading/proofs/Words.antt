@@ -1,5 +1,5 @@
 -- What the words of a text come to: a whole draft, or a place where it stops, for a reason that the fault tells.
-use Rattle.std.proofs.Common.{◌≡◌, ℕ, zero, suc, ◌+◌, ◌-◌, ◌<◌, ◌≤◌, Bool, true, false, cond, ltb, List, length, ℤ, IfOk, Some, None, Ok, Err, Option, Result, sym, refl, ap, ◌∙◌, subst, arith, MatchResult}
+use Rattle.std.proofs.Common.{◌≡◌, ℕ, zero, suc, ◌+◌, ◌-◌, ◌<◌, ◌≤◌, Bool, true, false, cond, ltb, List, length, IfOk, Some, None, Ok, Err, Option, Result, sym, refl, ap, ◌∙◌, subst, arith, MatchResult}
 use Rattle.std.proofs.lemmas.Bool.{le-ltb, lt-ltb, ltb-false, cond-true, cond-false}
 use Rattle.words.specs.declared.word.WordFault.{WordFault}
 use Rattle.words.specs.declared.word.WordFault.TheVariants.{Stray, Unclosed, OutsideInt}
@@ -8,8 +8,7 @@ use Rattle.words.proofs.Places.{in_order}
 use Rattle.syntax.specs.declared.record.Name.{Name}
 use Rattle.syntax.specs.declared.record.Operand.TheVariants.{Variable}
 use Rattle.syntax.specs.declared.record.Operation.{Operation}
-use Rattle.syntax.specs.declared.record.Operation.TheVariants.{Apply, Store, Jump}
-use Rattle.syntax.specs.declared.grammar.Stage.{Stage}
+use Rattle.syntax.specs.declared.record.Operation.TheVariants.{Apply, Store}
 use Rattle.syntax.specs.declared.grammar.Step.{Step}
 use Rattle.syntax.specs.declared.grammar.Step.TheVariants.{Enter, Declare, Keep, Begin, Label, Complete, Use, Change, Aim}
 use Rattle.syntax.specs.Tokens.{token_of}
@@ -20,11 +19,11 @@ use Rattle.reading.specs.declared.fault.ProgramFault.TheVariants as program
 use Rattle.reading.specs.Faults.{program_number, program_place}
 use Rattle.reading.specs.Names.{variable_name, found}
 use Rattle.reading.specs.Statements.{fitting, step_from, step_at}
-use Rattle.reading.specs.Drafts.{Draft, room_for_variables, room_for_statements, is_known, declared_in, as_variable, completed, completed_by, applied}
+use Rattle.reading.specs.Drafts.{Draft, room_for_variables, room_for_statements, is_known, declared_in, as_variable, completed_by, applied}
 use Rattle.reading.specs.Reading.{onward, go_on, taken_from, taken, blank_draft}
-use Rattle.reading.specs.FirstFault.{as_name, Begins, nothing, word, Next, Known, NoVariable, Stops, stray_byte, open_comment, outside_int, outside_misfit, misfit, early_end, variable_again, label_again, no_value, no_storage, no_place_variable, no_place_statement, no_place_label, Makes}
-use Rattle.reading.proofs.Turns.{Left, ended, unfit, refused, further}
-use Rattle.reading.proofs.Room.{Roomy, StepRoomy, FitRoomy, StatementFits, VariableFits, roomy-followed, roomy-applied}
+use Rattle.reading.specs.FirstFault.{as_name, Begins, nothing, word, Next, Stops, stray_byte, open_comment, outside_int, outside_misfit, misfit, early_end, variable_again, label_again, no_value, no_storage, no_place_variable, no_place_statement, no_place_label, Makes}
+use Rattle.reading.proofs.Turns.{Left, unfit, refused, further}
+use Rattle.reading.proofs.Room.{Roomy, StepRoomy, FitRoomy, StatementFits, roomy-followed, roomy-applied}
 
 -- what a word that stands there does
 module _ (text : List ℕ) (p : ℕ) (d : Draft) where

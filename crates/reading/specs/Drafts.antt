@@ -1,10 +1,8 @@
 -- A program in the making: the stage that its text has come to, its records, and how many of them are in use.
-use Rattle.std.specs.Prelude.{ℕ, ◌+◌, ◌≤◌, min, Bool, true, false, cond, ◌||◌, List, [], ◌∷◌, length, take, is_some, Some, None, Ok, Err, Option, Result, nat_lt, slice_set}
+use Rattle.std.specs.Prelude.{ℕ, ◌+◌, ◌≤◌, min, Bool, cond, ◌||◌, List, length, take, is_some, Some, None, Ok, Err, Option, Result, nat_lt, slice_set}
 use Rattle.syntax.specs.declared.operator.Command.{Command}
 use Rattle.syntax.specs.declared.operator.Command.TheVariants as c
 use Rattle.syntax.specs.declared.record.Name.{Name}
-use Rattle.syntax.specs.declared.record.Class.{Class}
-use Rattle.syntax.specs.declared.record.Declaration.{Declaration}
 use Rattle.syntax.specs.declared.record.Variable.{Variable}
 use Rattle.syntax.specs.declared.record.Operand.TheVariants as operand
 use Rattle.syntax.specs.declared.record.Operation.{Operation}

@@ -1,6 +1,5 @@
 -- The number, the place and the layer that each fault tells.
 use Rattle.std.specs.Prelude.{ℕ}
-use Rattle.words.specs.declared.word.WordFault.{WordFault}
 use Rattle.words.specs.Faults.{word_number, word_place}
 use Rattle.reading.specs.declared.fault.StatementFault.{StatementFault}
 use Rattle.reading.specs.declared.fault.StatementFault.TheVariants.{Word, Misfit, NoVariable}

@@ -12,7 +12,6 @@ use Rattle.syntax.specs.declared.record.Class.{Class}
 use Rattle.syntax.specs.declared.record.Constant.TheVariants.{Int}
 use Rattle.syntax.specs.declared.record.Operation.TheVariants.{Jump}
 use Rattle.syntax.specs.declared.token.Token.TheVariants.{Constant}
-use Rattle.syntax.specs.declared.grammar.Stage.{Stage}
 use Rattle.syntax.specs.declared.grammar.Step.{Step}
 use Rattle.syntax.specs.declared.grammar.Step.TheVariants.{Declare, Begin, Label, Use, Change}
 use Rattle.syntax.specs.Records.{no_statement}

@@ -1,5 +1,5 @@
 -- Which records have names, and which of them has a given one.
-use Rattle.std.specs.Prelude.{ℕ, ◌+◌, Bool, true, false, cond, List, [], ◌∷◌, Some, None, Option}
+use Rattle.std.specs.Prelude.{ℕ, ◌+◌, Bool, false, cond, List, [], ◌∷◌, Some, None, Option}
 use Rattle.syntax.specs.declared.record.Name.{Name}
 use Rattle.syntax.specs.declared.record.Variable.{Variable}
 use Rattle.syntax.specs.declared.record.Operation.{Operation}

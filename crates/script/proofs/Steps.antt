@@ -1,11 +1,10 @@
 -- One step of a scan.
-use Rattle.std.proofs.Common.{◌≡◌, ℕ, zero, suc, ◌-◌, ◌<◌, ◌≤◌, List, Ok, Err, Option, Result, sym, refl, ap, ◌∙◌, sub-one, arith}
+use Rattle.std.proofs.Common.{◌≡◌, ℕ, zero, suc, ◌-◌, ◌<◌, ◌≤◌, List, Ok, Err, Option, sym, ap, ◌∙◌, sub-one, arith}
 use Rattle.domain.specs.Domain.{Ops}
 use Rattle.cells.specs.declared.cell.Cell.{Cell}
 use Rattle.meaning.specs.declared.compute.Cause.{Cause}
 use Rattle.program.specs.Model.{Code}
 use Rattle.controller.specs.declared.fault.CallFault.{CallFault}
-use Rattle.controller.specs.declared.phase.Phase.{Phase}
 use Rattle.controller.specs.declared.phase.Phase.TheVariants.{Waiting, Running, Stopped}
 use Rattle.controller.specs.Machine.{Machine}
 use Rattle.script.specs.declared.line.Line.TheVariants.{Refused}

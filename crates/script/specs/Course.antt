@@ -16,7 +16,7 @@ use Rattle.script.specs.declared.run.Refusal.{Refusal}
 use Rattle.script.specs.declared.run.Flow.{Flow}
 use Rattle.script.specs.declared.run.Flow.TheVariants.{On, Refused}
 use Rattle.script.specs.Lines.{refusal_text}
-use Rattle.script.specs.Words.{act_on, pending_after}
+use Rattle.script.specs.Words.{act_on}
 use Rattle.script.specs.Carried.{pending_told, text_after, machine_after, order_text, order_machine}
 use Rattle.script.specs.Script.{flow_of, script_refusal}
 

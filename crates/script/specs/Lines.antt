@@ -1,5 +1,5 @@
 -- What a call is told to have come to, and how that is written.
-use Rattle.std.specs.Prelude.{ℕ, List, [], ◌∷◌, ◌++◌, ℤ, Some, None, Ok, Err, codes, decimal, fold, Option, Result}
+use Rattle.std.specs.Prelude.{ℕ, List, ◌++◌, ℤ, Some, None, Ok, Err, codes, decimal, fold, Option, Result}
 use Rattle.std.specs.Fmt.{signed_decimal}
 use Rattle.meaning.specs.declared.compute.Cause.{Cause}
 use Rattle.meaning.specs.declared.compute.Cause.TheVariants as cause

@@ -1,5 +1,5 @@
 -- What each word of a script asks for.
-use Rattle.std.specs.Prelude.{ℕ, List, ℤ, Some, None, Option}
+use Rattle.std.specs.Prelude.{ℤ, Some, None, Option}
 use Rattle.numbers.specs.Number.{int_of}
 use Rattle.words.specs.Words.{Lexeme, name, number, colon, semicolon, assign}
 use Rattle.script.specs.declared.order.Order.{Order}

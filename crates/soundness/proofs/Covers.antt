@@ -1,5 +1,5 @@
 -- Rows that cover a state are not unreachable, and a row that they are within covers it too.
-use Rattle.std.proofs.Common.{◌≡◌, ℕ, zero, suc, ◌<◌, ◌≤◌, Bool as Truth, true, false, not, ◌&&◌, ◌||◌, List, [], ◌∷◌, length, get_or, sym, refl, ap, ◌∙◌, arith}
+use Rattle.std.proofs.Common.{◌≡◌, zero, suc, ◌<◌, ◌≤◌, Bool as Truth, true, false, List, [], ◌∷◌, length, get_or, sym, refl, arith}
 use Rattle.std.proofs.lemmas.Bool.{and_parts, or_from, true≢false}
 use Rattle.domain.specs.Domain.{Ops, Lawful}
 use Rattle.cells.specs.declared.value.Value.{Value}

@@ -1,5 +1,5 @@
 -- Each row of a table, the start row and each carried row have one cell for the current result and one for each variable.
-use Rattle.std.proofs.Common.{◌≡◌, ℕ, zero, suc, ◌+◌, ◌-◌, ◌*◌, ◌<◌, ◌≤◌, min, Bool as Truth, true, false, cond, ◌||◌, List, [], ◌∷◌, length, get_or, take, drop, set, Some, None, Option, sym, refl, ap, ◌∙◌, subst, mul-le-mul_right, arith, length-drop, length-set, length-take}
+use Rattle.std.proofs.Common.{◌≡◌, ℕ, suc, ◌+◌, ◌*◌, ◌<◌, ◌≤◌, ◌||◌, List, [], ◌∷◌, length, drop, set, Some, None, Option, refl, ap, ◌∙◌, subst, mul-le-mul_right, arith, length-drop, length-set, length-take}
 use Rattle.std.proofs.lemmas.Bool.{cond_both}
 use Rattle.domain.specs.Domain.{Ops}
 use Rattle.syntax.specs.declared.operator.Jump.{Jump}
@@ -11,8 +11,8 @@ use Rattle.cells.specs.declared.cell.Cell.{Cell}
 use Rattle.cells.specs.Cells.{is_vacant}
 use Rattle.meaning.specs.declared.edge.Edge.{Edge}
 use Rattle.meaning.specs.declared.edge.Edge.TheVariants as way
-use Rattle.transfer.specs.Rows.{width, row_at, start_row, initial_cells, restart_cells}
-use Rattle.transfer.specs.Transfer.{left_of, right_of, return_row, with_variable, jump_carried, carried_by, carried}
+use Rattle.transfer.specs.Rows.{width, row_at, start_row, restart_cells}
+use Rattle.transfer.specs.Transfer.{left_of, right_of, return_row, jump_carried, carried_by, carried}
 use Rattle.table.proofs.Starting.{initial-length}
 
 more_rows : (n w k : ℕ) → k < n → k * w + w ≤ n * w

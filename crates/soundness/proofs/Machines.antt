@@ -1,12 +1,11 @@
 -- Controllers after any calls: where they stand, and what they have counted.
-use Rattle.std.proofs.Common.{◌≡◌, ℕ, zero, suc, ◌+◌, ◌<◌, ◌≤◌, Bool as Truth, true, false, cond, not, eqb, List, [], ◌∷◌, ◌++◌, length, get_or, replicate, ℤ, Some, None, Ok, Err, Option, Result, sym, refl, ap, ◌∙◌, subst, arith}
+use Rattle.std.proofs.Common.{◌≡◌, ℕ, ◌+◌, ◌<◌, ◌≤◌, Bool as Truth, false, cond, not, eqb, List, [], ◌∷◌, ◌++◌, length, get_or, replicate, ℤ, Some, None, Ok, Err, Option, Result, sym, refl, ap, ◌∙◌, subst, arith}
 use lib.ListN.{length-replicate}
 use Rattle.std.proofs.lemmas.Bool.{cond_both}
 use Rattle.domain.specs.Domain.{Ops, Lawful}
 use Rattle.syntax.specs.declared.record.Operation.{Operation}
 use Rattle.syntax.specs.declared.record.Operation.TheVariants.{Return, Not, Label, Apply, Store, Jump}
 use Rattle.syntax.specs.declared.record.Statement.{Statement}
-use Rattle.syntax.specs.declared.record.Variable.{Variable}
 use Rattle.syntax.specs.Records.{no_variable}
 use Rattle.reading.specs.Formed.{Formed}
 use Rattle.program.specs.Model.{Code}
@@ -19,7 +18,6 @@ use Rattle.meaning.specs.declared.edge.Edge.TheVariants as way
 use Rattle.meaning.specs.Meaning.{State, perform}
 use Rattle.transfer.specs.Rows.{width, row_at}
 use Rattle.transfer.specs.Transfer.{target_of}
-use Rattle.transfer.specs.Marks.{has_cause}
 use Rattle.transfer.specs.Soundness.{StartedAt, initial_values}
 use Rattle.transfer.proofs.Simulates.{same-pair}
 use Rattle.transfer.proofs.Foresees.{foresees}
@@ -30,8 +28,8 @@ use Rattle.controller.specs.declared.phase.Phase.TheVariants.{Waiting, Running, 
 use Rattle.controller.specs.declared.fault.CallFault.TheVariants.{WrongSize, StepsFull, BadInput}
 use Rattle.controller.specs.declared.call.Sight.{Sight}
 use Rattle.controller.specs.Tallies.{Tally, none, is_full, stepped as counted, tallied}
-use Rattle.controller.specs.Lists.{input_count, output_count, first_bad, given, begun, initially}
-use Rattle.controller.specs.Machine.{Machine, Reply, refused, done, first_phase, phase_after, advanced, start_with, sight_of, stepped, fresh, to_restart, to_read, reply_in}
+use Rattle.controller.specs.Lists.{input_count, first_bad, given, begun, initially}
+use Rattle.controller.specs.Machine.{Machine, refused, done, first_phase, phase_after, advanced, start_with, sight_of, stepped, fresh}
 use Rattle.controller.specs.Runs.{CallOf, take_start, take_step, take_restart, take_read, after, after_all}
 use Rattle.controller.proofs.Laws.{restarts, read_keeps}
 use Rattle.soundness.specs.Reachable.{Given, Reachable, first, next, again, at_start}

@@ -1,17 +1,15 @@
 -- What holds of every state that a program can come to.
-use Rattle.std.proofs.Common.{◌≡◌, ℕ, ◌<◌, ◌≤◌, true, false, List, ◌∷◌, length, Some, Ok, sym, refl, ap, ◌∙◌, subst, arith}
+use Rattle.std.proofs.Common.{◌≡◌, ℕ, ◌<◌, ◌≤◌, List, ◌∷◌, length, Some, Ok, refl, ap, ◌∙◌, subst, arith}
 use Rattle.domain.specs.Domain.{Ops, Lawful}
 use Rattle.syntax.specs.declared.record.Operation.{Operation}
 use Rattle.syntax.specs.declared.record.Operation.TheVariants.{Return}
-use Rattle.syntax.specs.declared.record.Statement.{Statement}
-use Rattle.syntax.specs.declared.record.Variable.{Variable}
-use Rattle.reading.specs.Formed.{names_only, Formed}
+use Rattle.reading.specs.Formed.{Formed}
 use Rattle.program.specs.Model.{Code}
 use Rattle.cells.specs.declared.cell.Cell.{Cell}
 use Rattle.meaning.specs.declared.edge.Edge.{Edge}
 use Rattle.meaning.specs.declared.edge.Edge.TheVariants as way
 use Rattle.meaning.specs.Meaning.{State, perform}
-use Rattle.transfer.specs.Rows.{width, row_at, start_row, is_unreachable}
+use Rattle.transfer.specs.Rows.{width, row_at, start_row}
 use Rattle.transfer.specs.Transfer.{carried, return_row, target_of}
 use Rattle.transfer.specs.Soundness.{Sized, CoversState, Before}
 use Rattle.transfer.proofs.Simulation.{each_from, carries}

@@ -1,5 +1,5 @@
 -- A statement keeps a place for each value, and every number inside INT.
-use Rattle.std.proofs.Common.{◌≡◌, ℕ, zero, suc, Bool as Truth, true, false, cond, not, List, [], ◌∷◌, length, get_or, set, ℤ, pos, ◌+ℤ◌, ◌-ℤ◌, ◌*ℤ◌, Ok, Err, Result, refl, ap, ◌∙◌, length-set}
+use Rattle.std.proofs.Common.{◌≡◌, ℕ, zero, suc, true, false, List, [], ◌∷◌, length, get_or, set, ℤ, pos, ◌+ℤ◌, ◌-ℤ◌, ◌*ℤ◌, Ok, Err, Result, refl, length-set}
 use lib.Signed.{quot_z}
 use Rattle.std.proofs.lemmas.Bool.{cond_both}
 use Rattle.numbers.specs.Int.{is_int}

@@ -1,5 +1,5 @@
 -- A start that is not refused gives the inputs values inside their ranges, and leaves the others.
-use Rattle.std.proofs.Common.{◌≡◌, ℕ, zero, suc, ◌+◌, ◌<◌, ◌≤◌, Bool as Truth, true, false, cond, not, ◌&&◌, List, [], ◌∷◌, length, get_or, replicate, ℤ, pos, ◌≤ℤ◌, Some, None, Option, sym, refl, ap, ◌∙◌, subst, arith}
+use Rattle.std.proofs.Common.{◌≡◌, ℕ, zero, suc, ◌+◌, ◌<◌, ◌≤◌, Bool as Truth, true, false, cond, not, ◌&&◌, List, [], ◌∷◌, length, get_or, replicate, ℤ, pos, ◌≤ℤ◌, Some, None, Option, sym, refl, ap, subst, arith}
 use lib.Signed.{le_z}
 use Rattle.std.proofs.lemmas.Int.{ints}
 use Rattle.std.proofs.lemmas.Bool.{cond_both, and_parts, true≢false}
@@ -11,11 +11,10 @@ use Rattle.syntax.specs.declared.record.Class.TheVariants.{Local, Input, Output}
 use Rattle.syntax.specs.declared.record.Constant.{Constant}
 use Rattle.syntax.specs.declared.record.Constant.TheVariants as constant
 use Rattle.syntax.specs.declared.record.Variable.{Variable}
-use Rattle.syntax.specs.Records.{no_variable}
 use Rattle.reading.specs.Formed.{is_proper, in_order, Ordered}
 use Rattle.cells.specs.declared.value.Value.{Value}
-use Rattle.cells.specs.declared.value.Value.TheVariants.{Unset, Bool, Int}
-use Rattle.cells.specs.Values.{value_of, is_sized}
+use Rattle.cells.specs.declared.value.Value.TheVariants.{Unset, Int}
+use Rattle.cells.specs.Values.{is_sized}
 use Rattle.transfer.specs.Soundness.{GivenBy, StartedAt, Started, initial_values}
 use Rattle.transfer.proofs.Covering.{proper-sized}
 use Rattle.controller.specs.Lists.{is_input, one, takes, value_for, refuses, first_bad, entered, given, begun}

@@ -1,5 +1,5 @@
 -- A name in two tables of words, one after the other.
-use Rattle.std.proofs.Common.{◌≡◌, ℕ, Bool, true, false, cond, List, [], ◌∷◌, ◌++◌, Some, None, Option, refl, ap, ◌∙◌}
+use Rattle.std.proofs.Common.{◌≡◌, ℕ, Bool, true, false, cond, List, [], ◌∷◌, ◌++◌, Some, None, Option, refl}
 use Rattle.syntax.specs.declared.token.Token.{Token}
 use Rattle.syntax.specs.Names.{same_name}
 use Rattle.syntax.specs.Tokens.{among}

@@ -1,5 +1,5 @@
 -- Names: when two are equal, and which record has one.
-use Rattle.std.specs.Prelude.{ℕ, ◌+◌, Bool, true, false, cond, List, [], ◌∷◌, take, drop, Some, None, Option}
+use Rattle.std.specs.Prelude.{ℕ, Bool, List, take, drop}
 use Rattle.std.specs.Str.{bytes_eq}
 use Rattle.syntax.specs.declared.record.Name.{Name}
 

@@ -1,5 +1,5 @@
 -- The records of a program: blank ones, and how a declaration and a range make one.
-use Rattle.std.specs.Prelude.{false, ℤ, pos}
+use Rattle.std.specs.Prelude.{false, pos}
 use Rattle.numbers.specs.Int.{lowest, highest}
 use Rattle.syntax.specs.declared.record.Class.TheVariants.{Local}
 use Rattle.syntax.specs.declared.record.Kind.{Kind}

@@ -1,12 +1,12 @@
 -- A sheet is handed out exactly for a table that passes.
-use Rattle.std.proofs.Common.{◌≡◌, ℕ, Bool as Truth, true, false, cond, eqb, List, length, is_ok, Some, None, Ok, Err, Option, Result, sym, refl, ap, ◌∙◌, arith, eq-eqb, eqb-true}
+use Rattle.std.proofs.Common.{◌≡◌, ℕ, Bool as Truth, true, false, cond, eqb, List, length, is_ok, Some, None, Ok, Err, Option, Result, sym, refl, ap, ◌∙◌, eq-eqb, eqb-true}
 use Rattle.std.proofs.lemmas.Bool.{true≢false, cond-true}
 use Rattle.domain.specs.Domain.{Ops}
 use Rattle.program.specs.Model.{Code}
 use Rattle.cells.specs.declared.cell.Cell.{Cell}
 use Rattle.table.specs.Tables.{table_size}
 use Rattle.table_check.specs.declared.fault.CheckFault.{CheckFault}
-use Rattle.table_check.specs.declared.fault.CheckFault.TheVariants.{WrongSize, NotWithin}
+use Rattle.table_check.specs.declared.fault.CheckFault.TheVariants.{WrongSize}
 use Rattle.table_check.specs.declared.sheet.Sheet.{Sheet}
 use Rattle.table_check.specs.Passing.{Passes}
 use Rattle.table_check.specs.Failures.{first_failure}

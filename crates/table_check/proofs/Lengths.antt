@@ -1,5 +1,5 @@
 -- How long carried rows are.
-use Rattle.std.proofs.Common.{◌≡◌, ℕ, suc, ◌+◌, ◌≤◌, Bool as Truth, ◌||◌, List, [], ◌∷◌, length, drop, set, Some, None, Option, sym, refl, ap, ◌∙◌, subst, arith, length-set}
+use Rattle.std.proofs.Common.{◌≡◌, suc, ◌+◌, ◌||◌, List, [], ◌∷◌, length, drop, set, Some, None, Option, refl, ap, ◌∙◌, subst, arith, length-set}
 use Rattle.std.proofs.lemmas.Bool.{cond_both}
 use Rattle.domain.specs.Domain.{Ops}
 use Rattle.syntax.specs.declared.operator.Jump.{Jump}

@@ -1,5 +1,5 @@
 -- A table of the right size passes exactly if no place of it fails.
-use Rattle.std.proofs.Common.{◌≡◌, ℕ, zero, suc, ◌+◌, ◌*◌, ◌<◌, ◌≤◌, Bool as Truth, true, false, cond, List, [], ◌∷◌, length, get_or, take, drop, Some, None, Option, sym, refl, ap, ◌∙◌, subst, add-zero, add-mul, one-mul, arith}
+use Rattle.std.proofs.Common.{◌≡◌, ℕ, zero, suc, ◌+◌, ◌*◌, ◌<◌, ◌≤◌, Bool as Truth, true, false, cond, List, [], ◌∷◌, length, get_or, drop, Some, None, Option, sym, refl, ap, ◌∙◌, add-zero, add-mul, one-mul, arith}
 use Rattle.std.proofs.lemmas.Bool.{cond-true, cond_both}
 use Rattle.std.proofs.lemmas.List.{get_or-take, get_or-drop, length-take-le, length-drop}
 use Rattle.std.proofs.lemmas.Nat.{mul-le}
@@ -8,7 +8,6 @@ use Rattle.program.specs.Model.{Code}
 use Rattle.syntax.specs.declared.record.Operation.{Operation}
 use Rattle.syntax.specs.declared.record.Statement.{Statement}
 use Rattle.syntax.specs.declared.record.Variable.{Variable}
-use Rattle.syntax.specs.Records.{no_statement}
 use Rattle.cells.specs.declared.cell.Cell.{Cell}
 use Rattle.cells.specs.Cells.{nothing, within}
 use Rattle.meaning.specs.declared.edge.Edge.{Edge}
@@ -16,7 +15,7 @@ use Rattle.meaning.specs.declared.edge.Edge.TheVariants as way
 use Rattle.transfer.specs.Rows.{width, row_at, is_unreachable, start_row}
 use Rattle.transfer.specs.Transfer.{carried, target_of}
 use Rattle.table.specs.Tables.{operation_at, table_size}
-use Rattle.table_check.specs.Passing.{RowWithin, TakenIn, Passes}
+use Rattle.table_check.specs.Passing.{TakenIn, Passes}
 use Rattle.table_check.specs.Failures.{or_else, first_outside, fails_at, fails_if, fails_on, fails_from, fails_among, fails_with, first_failure}
 use Rattle.table_check.proofs.Lengths.{carried-length, start-length}
 

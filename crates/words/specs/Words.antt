@@ -1,5 +1,5 @@
 -- The words of a text: where each begins, what it is, and where the reading goes on.
-use Rattle.std.specs.Prelude.{ℕ, ◌+◌, Bool, true, false, cond, ◌&&◌, List, [], ◌∷◌, length, drop, Some, None, Ok, Err, Option, Result, ◌==◌, nat_lt, slice_index}
+use Rattle.std.specs.Prelude.{ℕ, ◌+◌, cond, List, [], ◌∷◌, length, drop, Some, None, Ok, Err, Option, Result, ◌==◌, nat_lt, slice_index}
 use Rattle.std.specs.List.{between, prefix_len}
 use Rattle.std.specs.Char.{is_ascii_digit}
 use Rattle.numbers.specs.Int.{is_int}

@@ -1,5 +1,5 @@
 -- Worked cases: statements, number sets and what they come to, in one table.
-use Rattle.std.specs.Prelude.{◌≡◌, Bool as Truth, true, false, List, [], ◌∷◌, map, ℤ, pos, negsuc, Ok, Err, Result}
+use Rattle.std.specs.Prelude.{◌≡◌, Bool as Truth, true, List, [], ◌∷◌, map, ℤ, pos, negsuc, Ok, Err, Result}
 use Rattle.syntax.specs.declared.operator.Operator.{Operator}
 use Rattle.syntax.specs.declared.operator.Operator.TheVariants.{Add, Div}
 use Rattle.syntax.specs.declared.operator.Jump.TheVariants.{Jmpc}

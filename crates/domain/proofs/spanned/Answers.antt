@@ -1,4 +1,4 @@
-use Rattle.std.proofs.Common.{◌≡◌, ◌+◌, true, List, length, get_or, take, ℤ, pos, sym, refl, ap, ◌∙◌, subst, arith, take_all, w16, SFits, to_z, of_z, rules}
+use Rattle.std.proofs.Common.{◌≡◌, true, List, get_or, take, ℤ, pos, sym, ap, ◌∙◌, subst, arith, take_all, w16, SFits, to_z, of_z, rules}
 use Rattle.std.proofs.lemmas.List.Sums.{fold_more}
 use Rattle.std.proofs.ByRecursion.{All-more}
 use Rattle.std.proofs.lemmas.Int.{ints, to_z-of_z}

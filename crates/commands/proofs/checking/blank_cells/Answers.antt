@@ -1,4 +1,4 @@
-use Rattle.std.proofs.Common.{◌≡◌, ℕ, ◌+◌, ◌-◌, ◌*◌, List, [], ◌++◌, length, take, replicate, sym, refl, ap, ◌∙◌, zero-le, arith}
+use Rattle.std.proofs.Common.{◌≡◌, ℕ, ◌+◌, ◌-◌, ◌*◌, List, [], ◌++◌, length, take, replicate, ap, ◌∙◌, zero-le, arith}
 use Rattle.std.proofs.lemmas.List.{take_all}
 use Rattle.program.specs.Model.{code}
 use Rattle.syntax.specs.declared.record.Statement.{Statement}

@@ -1,4 +1,4 @@
-use Rattle.std.proofs.Common.{◌≡◌, sym, ap, ◌∙◌, rules}
+use Rattle.std.proofs.Common.{sym, ap, ◌∙◌}
 use Rattle.commands.specs.Spelling.{spelling}
 use Rattle.commands.proofs.Readback.{told}
 use Rattle.commands.proofs.spelling.word_of.Goals as goal

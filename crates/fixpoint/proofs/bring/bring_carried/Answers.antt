@@ -1,4 +1,4 @@
-use Rattle.std.proofs.Common.{◌≡◌, ℕ, ◌+◌, ◌*◌, ◌<◌, ◌≤◌, false, List, length, sym, refl, ap, ◌∙◌, arith}
+use Rattle.std.proofs.Common.{◌≡◌, ℕ, ◌*◌, false, length, sym, ap, ◌∙◌, arith}
 use Rattle.cells.specs.declared.cell.Cell.{Cell}
 use Rattle.transfer.specs.Rows.{width, row_at}
 use Rattle.table.specs.Growing.{grown}

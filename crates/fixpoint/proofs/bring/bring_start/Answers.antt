@@ -1,4 +1,4 @@
-use Rattle.std.proofs.Common.{◌≡◌, sym, refl, ap, ◌∙◌}
+use Rattle.std.proofs.Common.{sym, ap, ◌∙◌}
 use Rattle.transfer.specs.Rows.{start_row}
 use Rattle.fixpoint.proofs.Turns.{brought-unreached, start-reached}
 use Rattle.fixpoint.proofs.bring.bring_start.Goals as goal

@@ -1,5 +1,4 @@
-use Rattle.std.proofs.Common.{◌≡◌, ℕ, ◌+◌, ◌*◌, ◌<◌, ◌≤◌, length, get_or, sym, refl, ap, ◌∙◌, arith}
-use Rattle.cells.specs.Cells.{nothing}
+use Rattle.std.proofs.Common.{ap, ◌∙◌, arith}
 use Rattle.transfer.specs.Rows.{start_row}
 use Rattle.table.proofs.Starting.{initial-length}
 use Rattle.fixpoint.proofs.Turns.{brought-more, brought-done}

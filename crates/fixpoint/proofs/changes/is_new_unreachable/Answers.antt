@@ -1,4 +1,4 @@
-use Rattle.std.proofs.Common.{◌≡◌, ℕ, ◌<◌, ◌≤◌, ◌||◌, length, sym, refl, ap, ◌∙◌, arith}
+use Rattle.std.proofs.Common.{◌<◌, ◌≤◌, ◌||◌, length, sym, ap, ◌∙◌, arith}
 use Rattle.cells.specs.Cells.{is_vacant}
 use Rattle.fixpoint.specs.Bringing.{new_at}
 use Rattle.fixpoint.proofs.Turns.{new-vacant, new-beyond}

@@ -1,5 +1,5 @@
-use Rattle.std.proofs.Common.{◌≡◌, ℕ, ◌+◌, ◌*◌, List, length, Ok, sym, refl, ap, ◌∙◌, subst, arith}
-use Rattle.program.specs.Model.{Code, code}
+use Rattle.std.proofs.Common.{◌≡◌, ℕ, List, sym, ap, ◌∙◌, subst, arith}
+use Rattle.program.specs.Model.{code}
 use Rattle.cells.specs.declared.cell.Cell.{Cell}
 use Rattle.table_check.specs.Passing.{Passes}
 use Rattle.fixpoint.proofs.Passed.{formed-same, settled-in-size, settled-not-in-size, passes-in}

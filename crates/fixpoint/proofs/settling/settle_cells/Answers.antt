@@ -1,4 +1,4 @@
-use Rattle.std.proofs.Common.{◌≡◌, ℕ, ◌+◌, ◌-◌, ◌*◌, ◌<◌, ◌≤◌, Bool as Truth, true, false, List, length, Ok, Err, sym, refl, ap, ◌∙◌, arith}
+use Rattle.std.proofs.Common.{◌≡◌, ℕ, ◌+◌, ◌-◌, Bool as Truth, true, false, List, Err, sym, ap, ◌∙◌, arith}
 use Rattle.cells.specs.declared.cell.Cell.{Cell}
 use Rattle.fixpoint.specs.declared.fault.SettleFault.TheVariants.{NotSettled}
 use Rattle.fixpoint.specs.Sweeps.{swept_with, swept}

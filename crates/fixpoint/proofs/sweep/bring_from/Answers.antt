@@ -1,9 +1,8 @@
-use Rattle.std.proofs.Common.{◌≡◌, ℕ, ◌+◌, ◌*◌, ◌<◌, ◌≤◌, false, List, length, Some, sym, refl, ap, ◌∙◌, arith}
+use Rattle.std.proofs.Common.{◌≡◌, ◌*◌, List, length, sym, ap, ◌∙◌, arith}
 use Rattle.syntax.specs.declared.record.Operation.{Operation}
 use Rattle.cells.specs.declared.cell.Cell.{Cell}
 use Rattle.meaning.specs.declared.edge.Edge.TheVariants as way
 use Rattle.transfer.specs.Rows.{width, row_at, is_unreachable}
-use Rattle.transfer.specs.Transfer.{carried, target_of}
 use Rattle.table.specs.Tables.{operation_at}
 use Rattle.fixpoint.specs.Sweeps.{brought_on, brought_from}
 use Rattle.fixpoint.proofs.Places.{row_fits}

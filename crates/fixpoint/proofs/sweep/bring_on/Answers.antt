@@ -1,9 +1,8 @@
-use Rattle.std.proofs.Common.{◌≡◌, ℕ, ◌+◌, ◌*◌, ◌<◌, ◌≤◌, Bool as Truth, true, false, List, length, Some, None, Option, sym, refl, ap, ◌∙◌, arith}
+use Rattle.std.proofs.Common.{◌≡◌, ℕ, ◌*◌, false, List, length, Some, None, sym, ap, ◌∙◌, arith}
 use Rattle.cells.specs.declared.cell.Cell.{Cell}
-use Rattle.transfer.specs.declared.carry.Carried.{Carried}
 use Rattle.transfer.specs.Rows.{width, row_at, is_unreachable}
-use Rattle.transfer.specs.Transfer.{carried, target_of}
-use Rattle.transfer.specs.Carrying.{mapped, row_of}
+use Rattle.transfer.specs.Transfer.{target_of}
+use Rattle.transfer.specs.Carrying.{row_of}
 use Rattle.table.specs.Growing.{grown}
 use Rattle.fixpoint.proofs.Places.{row-length}
 use Rattle.fixpoint.proofs.Turns.{carried-read, brought-by, brought-reached, brought-unreached}

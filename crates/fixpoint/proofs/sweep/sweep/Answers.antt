@@ -1,6 +1,5 @@
-use Rattle.std.proofs.Common.{◌≡◌, ℕ, ◌+◌, ◌*◌, ◌<◌, ◌≤◌, List, length, sym, refl, ap, ◌∙◌, arith}
+use Rattle.std.proofs.Common.{◌<◌, length, sym, ap, ◌∙◌, arith}
 use Rattle.syntax.specs.Records.{no_statement}
-use Rattle.cells.specs.declared.cell.Cell.{Cell}
 use Rattle.transfer.specs.Rows.{width, start_row}
 use Rattle.table.specs.Growing.{Grown}
 use Rattle.fixpoint.specs.Sweeps.{brought, swept_from}

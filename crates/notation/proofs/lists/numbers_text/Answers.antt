@@ -1,4 +1,4 @@
-use Rattle.std.proofs.Common.{◌≡◌, List, [], get_or, ℤ, pos, string_bytes, sym, ap, ◌∙◌, arith, w16, SFits, rules}
+use Rattle.std.proofs.Common.{List, [], get_or, ℤ, pos, string_bytes, sym, ap, ◌∙◌, arith, w16, SFits, rules}
 use Rattle.std.proofs.lemmas.List.{take_all}
 use Rattle.std.proofs.lemmas.Int.{to_z-of_z}
 use Rattle.std.proofs.lemmas.List.Sums.{fold_more}

@@ -1,4 +1,4 @@
-use Rattle.std.proofs.Common.{◌≡◌, ◌≤◌, [], drop}
+use Rattle.std.proofs.Common.{◌≡◌, ◌≤◌, drop}
 use Rattle.std.specs.List.{between}
 use Rattle.notation.specs.Lists.{numbers_from, read_numbers}
 use Rattle.notation.proofs.lists.read_numbers.Given as goal

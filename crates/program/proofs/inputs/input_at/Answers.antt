@@ -1,4 +1,4 @@
-use Rattle.std.proofs.Common.{◌≡◌, ◌+◌, drop, sym, ap, ◌∙◌, subst}
+use Rattle.std.proofs.Common.{◌+◌, drop, sym, ap, ◌∙◌}
 use Rattle.program.specs.Model.{is_input, input_from}
 use Rattle.program.proofs.Positions.{input-found, input-counted, input-passed, input_none}
 use Rattle.program.proofs.inputs.input_at.Goals as goal

@@ -1,5 +1,5 @@
 use Rattle.std.proofs.Common.{arith}
-use Rattle.reading.specs.Drafts.{draft_of, with_statement, entered}
+use Rattle.reading.specs.Drafts.{draft_of}
 use Rattle.reading.proofs.Rooms.{no_room}
 use Rattle.reading.proofs.apply.keep_statement.Goals as goal
 

@@ -1,9 +1,9 @@
-use Rattle.std.proofs.Common.{◌≡◌, ℕ, List, length, IfOk, Result, sym, subst}
+use Rattle.std.proofs.Common.{List, length, IfOk, Result, sym, subst}
 use Rattle.syntax.specs.declared.record.Variable.{Variable}
 use Rattle.syntax.specs.declared.record.Statement.{Statement}
 use Rattle.reading.specs.declared.fault.ProgramFault.{ProgramFault}
 use Rattle.reading.specs.declared.draft.Extent.{Extent}
-use Rattle.reading.specs.Reading.{Reading, ReadAs, reading}
+use Rattle.reading.specs.Reading.{Reading, ReadAs}
 use Rattle.reading.specs.FirstFault.{FirstFault}
 use Rattle.reading.specs.Formed.{Filled}
 use Rattle.reading.proofs.Firsts.{reading-first}

@@ -1,10 +1,10 @@
-use Rattle.std.proofs.Common.{◌≡◌, ◌+◌, ◌<◌, ◌≤◌, length, Some, None, Ok, Err, sym, refl, ap, ◌∙◌, arith, rules}
+use Rattle.std.proofs.Common.{◌+◌, ◌<◌, length, Ok, sym, ap, ◌∙◌, arith}
 use Rattle.std.proofs.lemmas.Result.{err_from_is_err_and}
 use Rattle.std.proofs.lemmas.Option.{MatchOption-at_some}
-use Rattle.reading.specs.Drafts.{draft_of, drafted}
+use Rattle.reading.specs.Drafts.{draft_of}
 use Rattle.reading.specs.Statements.{step_at, step_is}
 use Rattle.reading.specs.Reading.{start, taken_from}
-use Rattle.reading.proofs.Turns.{Left, ended, unfit, refused, further}
+use Rattle.reading.proofs.Turns.{ended, unfit, refused, further}
 use Rattle.reading.proofs.fill.take_words.Goals as goal
 
 pub loop-name-init : goal.loop-name-init

@@ -1,9 +1,9 @@
-use Rattle.std.proofs.Common.{◌≡◌, List, [], get_or, Ok, Err, Result, sym, refl, ap, ◌∙◌, arith}
+use Rattle.std.proofs.Common.{◌≡◌, List, [], get_or, Ok, Err, Result, sym, refl, ◌∙◌, arith}
 use Rattle.std.proofs.lemmas.Result.{err_from_is_err_and}
 use Rattle.syntax.specs.declared.record.Statement.{Statement}
 use Rattle.syntax.specs.Records.{no_statement}
 use Rattle.reading.specs.declared.fault.ProgramFault.{ProgramFault}
-use Rattle.reading.specs.Reading.{aimed_all, aimed_statement, aimed_is, label_in}
+use Rattle.reading.specs.Reading.{label_in}
 use Rattle.reading.proofs.Aims.{after, alike, aimed-label, found-set, aims-fault, aims-more, aims-all}
 use Rattle.reading.proofs.targets.aim_jumps.Goals as goal
 

@@ -1,4 +1,4 @@
-use Rattle.std.proofs.Common.{◌≡◌, sym, ap, ◌∙◌}
+use Rattle.std.proofs.Common.{sym, ap, ◌∙◌}
 use Rattle.controller.specs.Machine.{machine, code_of}
 use Rattle.script.proofs.Steps.{steps-none, steps-more, steps-refused, steps-waiting, steps-stopped, for-code}
 use Rattle.script.proofs.calls.take_steps.Goals as goal

@@ -1,7 +1,7 @@
-use Rattle.std.proofs.Common.{◌≡◌, sym, ap, ◌∙◌, arith}
+use Rattle.std.proofs.Common.{ap, ◌∙◌, arith}
 use Rattle.std.proofs.lemmas.List.{at_drop_more, at_drop_all}
 use Rattle.syntax.specs.Records.{no_variable}
-use Rattle.controller.specs.Lists.{is_output, one, output_count}
+use Rattle.controller.specs.Lists.{one, output_count}
 use Rattle.script.proofs.outputs.count_outputs.Goals as goal
 
 pub loop-i-preserved : goal.loop-i-preserved

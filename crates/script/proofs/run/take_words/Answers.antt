@@ -1,11 +1,11 @@
-use Rattle.std.proofs.Common.{◌≡◌, Some, Ok, vec_items, string_bytes, sym, refl, ap, ◌∙◌}
+use Rattle.std.proofs.Common.{Some, Ok, vec_items, string_bytes, sym, ap, ◌∙◌}
 use Rattle.words.specs.Faults.{word_number}
 use Rattle.words.specs.Words.{next_at, answered, seen}
 use Rattle.controller.specs.Lists.{output_count}
 use Rattle.controller.specs.Machine.{machine, code_of}
 use Rattle.script.specs.Script.{refusal}
 use Rattle.script.specs.Words.{act_on}
-use Rattle.script.specs.Course.{course, acted}
+use Rattle.script.specs.Course.{course}
 use Rattle.script.proofs.Turns.{words-none, text-ended, unfit, word_on, word-refused}
 use Rattle.script.proofs.Courses.{closed-machine, closed-text, acted-is, course-none, course-ended, course-unfit, course-on, course-refused}
 use Rattle.script.proofs.run.take_words.Goals as goal

@@ -1,5 +1,5 @@
-use Rattle.std.proofs.Common.{◌≡◌, ◌++◌, None, sym, ◌∙◌}
-use Rattle.syntax.specs.Tokens.{among, logic_words, arithmetic_words, control_words, declaration_words}
+use Rattle.std.proofs.Common.{◌++◌, sym, ◌∙◌}
+use Rattle.syntax.specs.Tokens.{logic_words, arithmetic_words, control_words, declaration_words}
 use Rattle.syntax.proofs.Tables.{among_first, among_second}
 use Rattle.syntax.proofs.reserved.reserved.Goals as goal
 

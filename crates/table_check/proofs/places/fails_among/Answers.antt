@@ -1,9 +1,6 @@
-use Rattle.std.proofs.Common.{◌≡◌, ℕ, ◌+◌, ◌<◌, ◌≤◌, true, length, drop, Some, Option, sym, ap, ◌∙◌, subst, arith}
-use Rattle.syntax.specs.declared.record.Operation.{Operation}
+use Rattle.std.proofs.Common.{◌≡◌, ℕ, ◌+◌, true, length, drop, Some, Option, sym, ap, ◌∙◌, arith}
 use Rattle.reading.specs.Formed.{names_only}
-use Rattle.meaning.specs.declared.edge.Edge.TheVariants as way
 use Rattle.transfer.specs.Rows.{width}
-use Rattle.transfer.specs.Transfer.{target_of}
 use Rattle.table_check.specs.Failures.{or_else, fails_from, fails_among}
 use Rattle.table_check.proofs.Passing.{row-length}
 use Rattle.table_check.proofs.Targets.{jump-inside}

@@ -1,4 +1,4 @@
-use Rattle.std.proofs.Common.{◌≡◌, [], length, ap, ◌∙◌, arith}
+use Rattle.std.proofs.Common.{[], length, ap, ◌∙◌, arith}
 use Rattle.transfer.specs.declared.carry.Carried.{Carried}
 use Rattle.transfer.specs.Carrying.{row_of}
 use Rattle.table_check.specs.Failures.{fails_at}

@@ -1,4 +1,4 @@
-use Rattle.std.proofs.Common.{◌≡◌, length, ap, ◌∙◌, arith}
+use Rattle.std.proofs.Common.{length, ap, ◌∙◌, arith}
 use Rattle.table_check.proofs.Lengths.{changed-length}
 use Rattle.table_check.proofs.places.fails_on.Goals as goal
 

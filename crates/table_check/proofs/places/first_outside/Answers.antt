@@ -1,4 +1,4 @@
-use Rattle.std.proofs.Common.{◌≡◌, ◌+◌, ◌<◌, length, sym, ◌∙◌, arith}
+use Rattle.std.proofs.Common.{◌+◌, sym, ◌∙◌, arith}
 use Rattle.transfer.specs.Carrying.{row_of}
 use Rattle.table_check.proofs.Turns.{outside-here, outside-further, outside-nowhere}
 use Rattle.table_check.proofs.places.first_outside.Goals as goal

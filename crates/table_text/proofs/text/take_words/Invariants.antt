@@ -1,4 +1,4 @@
-use Rattle.std.proofs.Common.{◌≡◌, ◌-◌, ◌≤◌, length}
+use Rattle.std.proofs.Common.{◌-◌, ◌≤◌, length}
 use Rattle.table_text.specs.Table.{all_taken}
 use Rattle.table_text.proofs.Turns.{Left}
 use Rattle.table_text.proofs.text.take_words.Given as goal
