@@ -1,7 +1,7 @@
 -- What the laws alone give of the join of one-number spans.
 use Rattle.std.proofs.Common.{◌≡◌, true, List, [], ◌∷◌, ℤ, pos, fold, refl}
 use lib.Signed.{≤ℤ_refl, lt_z_yes}
-use Rattle.std.specs.List.{AllByRecursion as All}
+use Rattle.std.specs.List.{AllByRecursion}
 use Rattle.numbers.specs.Int.{is_int}
 use Rattle.domain.specs.Domain.{Ops, Lawful, holds, joined_spans, HoldsEach, LeastOver}
 
@@ -12,7 +12,7 @@ module _ {S : Type 0} (o : Ops S) (l : Lawful o) where
 
   -- the numbers are INTs
   abbrev pub All-ints : List ℤ → Type 0
-  All-ints ns = All (λ n. is_int n ≡ true) ns
+  All-ints ns = AllByRecursion (λ n. is_int n ≡ true) ns
 
   grows : (s : S) (ns : List ℤ) → o.within s (fold with-span s ns) ≡ true
   grows s [] = l.within_refl s
@@ -26,7 +26,7 @@ module _ {S : Type 0} (o : Ops S) (l : Lawful o) where
   each s (n ∷ ns) i =
       (one _ n i.0 (l.within_trans _ _ _ (l.join_right s (o.span n n)) (grows (with-span s n) ns)), each (with-span s n) ns i.1)
 
-  least : (s : S) (ns : List ℤ) (t : S) → o.within s t ≡ true → All (λ n. o.within (o.span n n) t ≡ true) ns → o.within (fold with-span s ns) t ≡ true
+  least : (s : S) (ns : List ℤ) (t : S) → o.within s t ≡ true → AllByRecursion (λ n. o.within (o.span n n) t ≡ true) ns → o.within (fold with-span s ns) t ≡ true
   least s [] t w a = w
   least s (n ∷ ns) t w a = least (with-span s n) ns t (l.join_least s (o.span n n) t w a.0) a.1
 

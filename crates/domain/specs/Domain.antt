@@ -1,6 +1,6 @@
 -- A numeric domain: sets of INTs behind one interface, what its functions mean, and the laws that they keep.
 use Rattle.std.specs.Prelude.{◌≡◌, Bool, true, false, ◌&&◌, List, ℤ, pos, ◌+ℤ◌, ◌-ℤ◌, ◌*ℤ◌, ◌≤ℤ◌, ◌<ℤ◌, fold, ◌≢◌, int_div, int_lt}
-use Rattle.std.specs.List.{AllByRecursion as All}
+use Rattle.std.specs.List.{AllByRecursion}
 use Rattle.numbers.specs.Arithmetic.{eq_z}
 use Rattle.numbers.specs.Int.{is_int}
 use Rattle.domain.specs.declared.Truth.{Truth}
@@ -51,11 +51,11 @@ module _ {S : Type 0} (o : Ops S) where
 
   -- a set holds each of the numbers
   abbrev pub HoldsEach : S → List ℤ → Type 0
-  HoldsEach s ns = All (λ n. holds s n ≡ true) ns
+  HoldsEach s ns = AllByRecursion (λ n. holds s n ≡ true) ns
 
   -- a set is within every set that the one-number spans of the numbers are all within
   abbrev pub LeastOver : S → List ℤ → Type 0
-  LeastOver s ns = (t : S) → All (λ n. o.within (o.span n n) t ≡ true) ns → o.within s t ≡ true
+  LeastOver s ns = (t : S) → AllByRecursion (λ n. o.within (o.span n n) t ≡ true) ns → o.within s t ≡ true
 
 -- what the functions mean, and the laws that they keep: all that a domain owes
 pub record Lawful {S : Type 0} (o : Ops S) : Type 0 where

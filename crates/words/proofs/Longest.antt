@@ -1,6 +1,6 @@
 -- The word at a place is as long as it can be.
 use Rattle.std.proofs.Common.{◌≡◌, ℕ, suc, ◌+◌, ◌-◌, ◌<◌, ◌≤◌, Bool, true, false, eqb, ◌⊎◌, List, [], ◌∷◌, ◌++◌, length, get_or, take, drop, Ok, Err, Result, sym, refl, ap, ◌∙◌, subst, inl, inr, ⊎_elim, one-add, arith}
-use Rattle.std.specs.List.{between, prefix_len, AllByRecursion as All}
+use Rattle.std.specs.List.{between, prefix_len, AllByRecursion}
 use Rattle.std.specs.Char.{is_ascii_digit}
 use Rattle.std.proofs.lemmas.List.{drop_more, drop-drop, take-append-drop, length-take-le}
 use Rattle.std.proofs.lemmas.List.Sums.{prefix_len-le-length}
@@ -20,11 +20,11 @@ use Rattle.words.specs.Laws.{IsDigits, IsNumber, IsWord, NoneLonger, Inside}
 use Rattle.words.proofs.Blanks.{first-left, two, stands}
 
 module _ (p : ℕ → Bool) where
-  all-leading : (xs : List ℕ) → All (λ c. p c ≡ true) (take (prefix_len p xs) xs)
+  all-leading : (xs : List ℕ) → AllByRecursion (λ c. p c ≡ true) (take (prefix_len p xs) xs)
   all-leading [] = tt
-  all-leading (x ∷ xs) = cond_both (p x) (1 + prefix_len p xs) 0 (λ n. All (λ c. p c ≡ true) (take n (x ∷ xs))) (λ e. rw one-add (e, all-leading xs)) (λ e. tt)
+  all-leading (x ∷ xs) = cond_both (p x) (1 + prefix_len p xs) 0 (λ n. AllByRecursion (λ c. p c ≡ true) (take n (x ∷ xs))) (λ e. rw one-add (e, all-leading xs)) (λ e. tt)
 
-  leading-most : (front back : List ℕ) → All (λ c. p c ≡ true) front → length front ≤ prefix_len p (front ++ back)
+  leading-most : (front back : List ℕ) → AllByRecursion (λ c. p c ≡ true) front → length front ≤ prefix_len p (front ++ back)
   leading-most [] back h = omega arith
   leading-most (x ∷ front) back h = cond_both (p x) (1 + prefix_len p (front ++ back)) 0 (λ n. length (x ∷ front) ≤ n) (λ e. omega (arith, leading-most front back h.1)) (λ e. absurd (both_ways (p x) e h.0))
 
@@ -65,14 +65,14 @@ parts b rest c front back e = let f : ◌≡◌ {A = List ℕ} (b ∷ rest) (c �
 
 module _ (b : ℕ) (rest : List ℕ) where
   -- the run of bytes behind the first byte of a front
-  run-most : (p : ℕ → Bool) (c : ℕ) (front back : List ℕ) → b ∷ rest ≡ c ∷ front ++ back → All (λ d. p d ≡ true) front → length (c ∷ front) ≤ 1 + prefix_len p rest
+  run-most : (p : ℕ → Bool) (c : ℕ) (front back : List ℕ) → b ∷ rest ≡ c ∷ front ++ back → AllByRecursion (λ d. p d ≡ true) front → length (c ∷ front) ≤ 1 + prefix_len p rest
   run-most p c front back e h = omega (arith, leading-most p front back h, ap (prefix_len p) (parts b rest c front back e).1)
 
   digits-first : (digits back : List ℕ) → rest ≡ digits ++ back → IsDigits digits → is_ascii_digit (get_or rest 0 0) ≡ true
   digits-first [] back e h = absurd h
   digits-first (d ∷ digits) back e h = ap (λ l. is_ascii_digit (get_or l 0 0)) e ∙ h.0
 
-  digits-all : (digits : List ℕ) → IsDigits digits → All (λ d. is_ascii_digit d ≡ true) digits
+  digits-all : (digits : List ℕ) → IsDigits digits → AllByRecursion (λ d. is_ascii_digit d ≡ true) digits
   digits-all [] h = absurd h
   digits-all (d ∷ digits) h = h
 
@@ -140,7 +140,7 @@ Here text q (Err (Stray p)) = (p ≡ q) × NoWord (drop q text)
 Here text q (Err (Unclosed p)) = ⊥
 Here text q (Err (OutsideInt p)) = (p ≡ q) × ((w : List ℕ) × (e : ℕ) × Stands text q (number w) e × (is_int (written w) ≡ false))
 
-digits_from : (xs : List ℕ) → 0 < length xs → All (λ c. is_ascii_digit c ≡ true) xs → IsDigits xs
+digits_from : (xs : List ℕ) → 0 < length xs → AllByRecursion (λ c. is_ascii_digit c ≡ true) xs → IsDigits xs
 digits_from [] l h = absurd (omega arith)
 digits_from (x ∷ xs) l h = h
 

@@ -1,6 +1,6 @@
 -- What a user can say of the next word: blanks, the word and the rest of the text, joined, are what was left, and no longer front is a word.
 use Rattle.std.specs.Prelude.{◌≡◌, ℕ, ◌+◌, ◌<◌, ◌≤◌, true, false, ◌⊎◌, List, [], ◌∷◌, ◌++◌, length, drop, Some, None, Ok, Err, Option, Result, ◌≢◌, slice_index}
-use Rattle.std.specs.List.{AllByRecursion as All}
+use Rattle.std.specs.List.{AllByRecursion}
 use Rattle.std.specs.Char.{is_ascii_digit}
 use Rattle.numbers.specs.Int.{is_int}
 use Rattle.numbers.specs.Number.{written}
@@ -22,12 +22,12 @@ pub data Blanks : List ℕ → Type 0 where
 -- a letter or an underscore, and then letters, digits and underscores
 abbrev pub IsName : List ℕ → Type 0
 IsName [] = ⊥
-IsName (b ∷ rest) = (begins_name b ≡ true) × All (λ c. in_name c ≡ true) rest
+IsName (b ∷ rest) = (begins_name b ≡ true) × AllByRecursion (λ c. in_name c ≡ true) rest
 
 -- digits, at least one
 abbrev pub IsDigits : List ℕ → Type 0
 IsDigits [] = ⊥
-IsDigits (b ∷ rest) = (is_ascii_digit b ≡ true) × All (λ c. is_ascii_digit c ≡ true) rest
+IsDigits (b ∷ rest) = (is_ascii_digit b ≡ true) × AllByRecursion (λ c. is_ascii_digit c ≡ true) rest
 
 -- digits, or a minus (45) and digits
 abbrev pub IsNumber : List ℕ → Type 0
