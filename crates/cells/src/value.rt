@@ -5,7 +5,7 @@ ghost use Rattle.cells.specs.Values.{sort_of, value_of};
 use numbers::Int;
 use syntax::record::Constant;
 
-#[derive(Clone, Copy)]
+#[derive(Clone, Copy, PartialEq, Eq, Debug)]
 pub enum Value {
     Unset,
     Bool(bool),
@@ -13,24 +13,26 @@ pub enum Value {
 }
 
 // The kind of a value, or that there is none.
-#[derive(Clone, Copy)]
+#[derive(Clone, Copy, PartialEq, Eq, Debug)]
 pub enum Sort {
     Unset,
     Bool,
     Int,
 }
 
-impl Value {
-    // The value that a constant writes.
-    pub fn of_constant(constant: Constant) -> Value
-        ensures { result ≡ value_of constant }
-    {
+// The value that a constant writes.
+impl From<Constant> for Value {
+    ghost from_gives = { λ constant value. value ≡ value_of constant };
+
+    fn from(constant: Constant) -> Value {
         match constant {
             Constant::Bool(b) => Value::Bool(b),
             Constant::Int(n) => Value::Int(n),
         }
     }
+}
 
+impl Value {
     pub fn sort(self) -> Sort
         ensures { result ≡ sort_of self }
     {

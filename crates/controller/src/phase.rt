@@ -1,7 +1,7 @@
 // What a controller is at.
 use meaning::compute::Cause;
 
-#[derive(Clone, Copy)]
+#[derive(Clone, Copy, PartialEq, Eq, Debug)]
 pub enum Phase {
     // for a scan to start
     Waiting,

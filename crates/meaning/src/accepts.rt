@@ -9,19 +9,13 @@ use syntax::record::Operation;
 fn is_bool(sort: Sort) -> bool
     ensures { result ≡ is_bool sort }
 {
-    match sort {
-        Sort::Bool => true,
-        _ => false,
-    }
+    sort == Sort::Bool
 }
 
 fn is_number(sort: Sort) -> bool
     ensures { result ≡ is_number sort }
 {
-    match sort {
-        Sort::Int => true,
-        _ => false,
-    }
+    sort == Sort::Int
 }
 
 fn accepts_operator(operator: Operator, left: Sort, right: Sort) -> bool

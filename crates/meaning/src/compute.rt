@@ -8,7 +8,7 @@ use numbers::{Int, fit};
 use syntax::operator::Operator;
 
 // Why a statement stops.
-#[derive(Clone, Copy)]
+#[derive(Clone, Copy, PartialEq, Eq, Debug)]
 pub enum Cause {
     // a value of a kind that it does not accept
     Kind,

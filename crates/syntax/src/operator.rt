@@ -1,7 +1,7 @@
 // The operators of Instruction List, by what they take.
 
 // Those that take a variable or a constant.
-#[derive(Clone, Copy)]
+#[derive(Clone, Copy, PartialEq, Eq, Debug)]
 pub enum Operator {
     Ld,
     Ldn,
@@ -24,7 +24,7 @@ pub enum Operator {
 }
 
 // Those that take a variable and may change it.
-#[derive(Clone, Copy)]
+#[derive(Clone, Copy, PartialEq, Eq, Debug)]
 pub enum Store {
     St,
     Stn,
@@ -33,7 +33,7 @@ pub enum Store {
 }
 
 // Those that take a label.
-#[derive(Clone, Copy)]
+#[derive(Clone, Copy, PartialEq, Eq, Debug)]
 pub enum Jump {
     Jmp,
     Jmpc,
@@ -41,7 +41,7 @@ pub enum Jump {
 }
 
 // Any of them, as a statement begins with it; RET and NOT take nothing.
-#[derive(Clone, Copy)]
+#[derive(Clone, Copy, PartialEq, Eq, Debug)]
 pub enum Command {
     Ret,
     Not,

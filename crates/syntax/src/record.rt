@@ -13,21 +13,21 @@ pub struct Name {
 }
 
 // Where a variable's value comes from or goes to.
-#[derive(Clone, Copy)]
+#[derive(Clone, Copy, PartialEq, Eq, Debug)]
 pub enum Class {
     Local,
     Input,
     Output,
 }
 
-#[derive(Clone, Copy)]
+#[derive(Clone, Copy, PartialEq, Eq, Debug)]
 pub enum Kind {
     Bool,
     Int,
 }
 
 // A value that a text writes out: TRUE, FALSE or a number.
-#[derive(Clone, Copy)]
+#[derive(Clone, Copy, PartialEq, Eq, Debug)]
 pub enum Constant {
     Bool(bool),
     Int(Int),

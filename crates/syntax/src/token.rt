@@ -8,7 +8,7 @@ use crate::record::{Class, Constant, Kind};
 use crate::reserved::reserved;
 use words::Word;
 
-#[derive(Clone, Copy)]
+#[derive(Clone, Copy, PartialEq, Eq, Debug)]
 pub enum Sign {
     Colon,
     Semicolon,

@@ -28,7 +28,7 @@ pub fn variable_at(variables: &[Variable], index: usize) -> Variable
 fn kind_value(variables: &[Variable], index: usize) -> Value
     ensures { result ≡ kind_value variables.now index }
 {
-    Value::of_constant(variable_at(variables, index).declaration().initial)
+    Value::from(variable_at(variables, index).declaration().initial)
 }
 
 // The cell of a variable, which stands after the current result's.
@@ -46,7 +46,7 @@ fn operand_cell<D: Domain>(row: &[Cell<D>], operand: Operand) -> Cell<D>
     ensures { result ≡ operand_cell D.ops row.now operand }
 {
     match operand {
-        Operand::Constant(constant) => Cell::of_value(Value::of_constant(constant)),
+        Operand::Constant(constant) => Cell::of_value(Value::from(constant)),
         Operand::Variable(index) => variable_cell(row, index),
     }
 }

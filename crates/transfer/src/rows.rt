@@ -57,6 +57,6 @@ pub fn initial_cell<D: Domain>(variable: Variable) -> Cell<D>
 {
     start_cell(
         variable,
-        Cell::of_value(Value::of_constant(variable.declaration().initial)),
+        Cell::of_value(Value::from(variable.declaration().initial)),
     )
 }

@@ -17,7 +17,7 @@ fn write_initial(slots: &mut [Slot], variables: &[Variable])
     ensures { values_in slots.new ≡ begun variables.now (values_in slots.old) }
 {
     for i in 0..variables.len() {
-        slots[i].store(Value::of_constant(variables[i].declaration().initial));
+        slots[i].store(Value::from(variables[i].declaration().initial));
     }
 }
 

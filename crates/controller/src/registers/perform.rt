@@ -17,7 +17,7 @@ fn kind_value(variables: &[Variable], index: usize) -> Value
     ensures { result ≡ kind_value variables.now index }
 {
     if index < variables.len() {
-        Value::of_constant(variables[index].declaration().initial)
+        Value::from(variables[index].declaration().initial)
     } else {
         Value::Bool(false)
     }
@@ -39,7 +39,7 @@ impl Registers {
         ensures { result ≡ operand_of (held self.now).values operand }
     {
         match operand {
-            Operand::Constant(constant) => Value::of_constant(constant),
+            Operand::Constant(constant) => Value::from(constant),
             Operand::Variable(index) => read(&self.slots, index),
         }
     }
