@@ -1,10 +1,16 @@
 -- The value of a number word: digits, or a minus and digits, as many as there are.
-use Rattle.std.specs.Prelude.{ℕ, ◌+◌, ◌-◌, ◌*◌, cond, List, [], ◌∷◌, ℤ, pos, neg_ℤ, fold, Option, ◌==◌}
+use Rattle.std.specs.Prelude.{Bool, ℕ, ◌+◌, ◌-◌, ◌*◌, cond, List, [], ◌∷◌, ℤ, pos, neg_ℤ, fold, Option, ◌==◌}
+use Rattle.std.specs.Char.{is_ascii_digit}
+use Rattle.std.specs.List.{list_all}
 use Rattle.numbers.specs.Int.{in_int}
 
 -- the number that decimal digits write; 48 is the byte of the digit 0
 abbrev pub decimal : List ℕ → ℕ
 decimal digits = fold (λ n b. n * 10 + (b - 48)) 0 digits
+
+-- every byte is a digit
+abbrev pub digits_only : List ℕ → Bool
+digits_only bytes = list_all is_ascii_digit bytes
 
 -- the number that a word's bytes write: a first byte, minus (45) or digit, and the rest
 abbrev pub written : List ℕ → ℤ

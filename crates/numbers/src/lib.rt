@@ -3,31 +3,42 @@
 
 ghost use Rattle.std.specs.Prelude.{◌≡◌, ◌<◌, min, length, pos, ◌≢◌, slice_index};
 ghost use Rattle.numbers.specs.Int.{in_int};
-ghost use Rattle.numbers.specs.Number.{decimal, int_of};
+ghost use Rattle.numbers.specs.Number.{decimal, digits_only, int_of};
 
 // The whole numbers that a variable of kind INT can hold.
 pub type Int = i16;
+
+// The number that the digits write, or `MOST` where that is more.
+pub fn capped<const MOST: u32>(digits: &[u8]) -> u32
+    ensures { result ≡ min (decimal digits.now) MOST }
+{
+    let most = u64::from(MOST);
+    let mut value = 0u64;
+    for b in digits {
+        value = (value * 10 + u64::from(b.saturating_sub(b'0'))).min(most);
+    }
+    value as u32
+}
+
+// Whether every byte is a digit.
+pub fn digits_only(bytes: &[u8]) -> bool
+    ensures { result ≡ digits_only bytes.now }
+{
+    bytes.iter().all(|b| b.is_ascii_digit())
+}
 
 // The number that the digits write, or 32,769 where that is more.
 fn magnitude(digits: &[u8]) -> i32
     ensures { result ≡ pos (min (decimal digits.now) 32769) }
 {
-    let mut value: u32 = 0;
-    for b in digits {
-        value = (value * 10 + b.saturating_sub(b'0') as u32).min(32_769);
-    }
-    value as i32
+    capped::<32_769>(digits) as i32
 }
 
 // The number itself where it is an INT.
 pub fn fit(value: i32) -> Option<Int>
     ensures { result ≡ in_int value }
 {
-    if Int::MIN as i32 <= value && value <= Int::MAX as i32 {
-        Some(value as Int)
-    } else {
-        None
-    }
+    Int::try_from(value).ok()
 }
 
 // The INT that a minus and digits write.

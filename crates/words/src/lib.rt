@@ -8,5 +8,6 @@ mod scan;
 mod tests;
 mod word;
 
+pub use bytes::is_blank;
 pub use reader::Reader;
 pub use word::{Word, WordFault};
