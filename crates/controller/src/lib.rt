@@ -14,4 +14,5 @@ mod slot;
 pub use controller::Controller;
 pub use counts::Counts;
 pub use fault::CallFault;
+pub use outputs::count_outputs;
 pub use phase::Phase;

@@ -16,7 +16,7 @@ pub(crate) fn is_output(class: Class) -> bool
 }
 
 // How many outputs there are.
-pub(crate) fn count_outputs(variables: &[Variable]) -> usize
+pub fn count_outputs(variables: &[Variable]) -> usize
     ensures { result ≡ output_count variables.now }
 {
     let mut count = 0;
