@@ -1,22 +1,40 @@
 -- A name in two tables of words, one after the other.
-use Rattle.std.proofs.Common.{◌≡◌, ℕ, Bool, true, false, cond, List, [], ◌∷◌, ◌++◌, Some, None, Option, refl}
+use Rattle.std.proofs.Common.{◌≡◌, ℕ, ◌+◌, ◌<◌, Bool, true, false, cond, List, [], ◌∷◌, ◌++◌, length, get_or, drop, Some, None, MatchOption, Option, refl, ap, ◌∙◌, arith}
+use Rattle.std.proofs.lemmas.List.{drop_more, drop_all}
+use Rattle.std.specs.Option.{option_or}
 use Rattle.syntax.specs.declared.token.Token.{Token}
 use Rattle.syntax.specs.Names.{same_name}
 use Rattle.syntax.specs.Tokens.{among}
 
-module _ (word : List ℕ) where
-  pub among_first : (ws vs : List (List ℕ × Token)) (t : Token) → among ws word ≡ Some t → among (ws ++ vs) word ≡ Some t
-  among_first [] vs t e = let z : ◌≡◌ {A = Option Token} None (Some t) = e in cc
-  among_first (w ∷ ws) vs t e = by (same_name word w.0) (among_first ws vs t) e
-    where
-      by : (b : Bool) → (among ws word ≡ Some t → among (ws ++ vs) word ≡ Some t) → cond b (Some w.1) (among ws word) ≡ Some t → cond b (Some w.1) (among (ws ++ vs) word) ≡ Some t
-      by true more e = e
-      by false more e = more e
+-- what the first table has, and else what the second has
+among_both : (word : List ℕ) (ws vs : List (List ℕ × Token)) → among (ws ++ vs) word ≡ option_or (among ws word) (among vs word)
+among_both word [] vs = refl
+among_both word (w ∷ ws) vs = by (same_name word w.0) (among_both word ws vs)
+  where
+    by : (b : Bool) → among (ws ++ vs) word ≡ option_or (among ws word) (among vs word) → cond b (Some w.1) (among (ws ++ vs) word) ≡ option_or (cond b (Some w.1) (among ws word)) (among vs word)
+    by true more = refl
+    by false more = more
 
-  pub among_second : (ws vs : List (List ℕ × Token)) → among ws word ≡ None → among (ws ++ vs) word ≡ among vs word
-  among_second [] vs e = refl
-  among_second (w ∷ ws) vs e = by (same_name word w.0) (among_second ws vs) e
-    where
-      by : (b : Bool) → (among ws word ≡ None → among (ws ++ vs) word ≡ among vs word) → cond b (Some w.1) (among ws word) ≡ None → cond b (Some w.1) (among (ws ++ vs) word) ≡ among vs word
-      by true more e = cc
-      by false more e = more e
+joined : (x y z : Option Token) → option_or x (option_or y z) ≡ option_or (option_or x y) z
+joined None y z = refl
+joined (Some t) y z = refl
+
+-- the same of four tables
+pub among_four : (word : List ℕ) (a b c d : List (List ℕ × Token)) → among (a ++ (b ++ (c ++ d))) word ≡ option_or (option_or (option_or (among a word) (among b word)) (among c word)) (among d word)
+among_four word a b c d =
+    among_both word a (b ++ (c ++ d)) ∙ ap (option_or (among a word)) (among_both word b (c ++ d)) ∙ joined (among a word) (among b word) (among (c ++ d) word)
+    ∙ ap (option_or (option_or (among a word) (among b word))) (among_both word c d) ∙ joined (option_or (among a word) (among b word)) (among c word) (among d word)
+
+-- an answer that is the first where there is one, and else the second
+pub either : {P : Type 0} (first second answer : Option Token) → (P → answer ≡ second) → MatchOption first P (λ t. answer ≡ Some t) → answer ≡ option_or first second
+either None second answer else h = else h
+either (Some t) second answer else h = h
+
+-- from a place on, the bytes of a text are those of a word, and it ends with them
+abbrev pub SpellsFrom : List ℕ → ℕ → List ℕ → Type 0
+SpellsFrom bytes i [] = length bytes ≡ i
+SpellsFrom bytes i (b ∷ word) = (i < length bytes) × (get_or bytes i 0 ≡ b) × SpellsFrom bytes (i + 1) word
+
+pub spells : (bytes : List ℕ) (i : ℕ) (word : List ℕ) → SpellsFrom bytes i word → drop i bytes ≡ word
+spells bytes i [] h = drop_all i bytes (omega arith)
+spells bytes i (b ∷ word) h = drop_more bytes i 0 h.0 ∙ ap (λ x. x ∷ drop (i + 1) bytes) h.1 ∙ ap (λ l. b ∷ l) (spells bytes (i + 1) word h.2)

@@ -1,4 +1,4 @@
-// Names that are equal, and the records that have a name.
+// When two names are one.
 ghost use Rattle.std.specs.Prelude.{◌≡◌};
 ghost use Rattle.syntax.specs.Names.{same_name};
 

@@ -63,9 +63,7 @@ fn between_blocks(token: Token) -> Option<Step>
 {
     match token {
         Token::Block(class) => Some(Step::Enter(Stage::Block(class))),
-        Token::Command(command) => Some(Step::Begin(command)),
-        Token::Name => Some(Step::Label),
-        _ => None,
+        _ => in_body(token),
     }
 }
 
@@ -118,33 +116,20 @@ fn after_kind(declaration: Declaration, token: Token) -> Option<Step>
     ensures { result ≡ after_kind declaration token }
 {
     match token {
-        Token::Sign(Sign::Semicolon) => Some(Step::Keep(declaration)),
         Token::Sign(Sign::Assign) => Some(Step::Enter(Stage::Initial(declaration))),
-        _ => None,
+        _ => after_initial(declaration, token),
     }
 }
 
 fn at_initial(declaration: Declaration, token: Token) -> Option<Step>
     ensures { result ≡ at_initial declaration token }
 {
-    let Declaration {
-        name,
-        class,
-        initial,
-    } = declaration;
-    match (initial, token) {
-        (Constant::Bool(_), Token::Constant(Constant::Bool(b))) => {
+    match (declaration.initial, token) {
+        (Constant::Bool(_), Token::Constant(initial @ Constant::Bool(_)))
+        | (Constant::Int(_), Token::Constant(initial @ Constant::Int(_))) => {
             Some(Step::Enter(Stage::Semicolon(Declaration {
-                name,
-                class,
-                initial: Constant::Bool(b),
-            })))
-        }
-        (Constant::Int(_), Token::Constant(Constant::Int(n))) => {
-            Some(Step::Enter(Stage::Semicolon(Declaration {
-                name,
-                class,
-                initial: Constant::Int(n),
+                initial,
+                ..declaration
             })))
         }
         _ => None,
@@ -232,10 +217,6 @@ impl Stage {
     pub fn may_end(self) -> bool
         ensures { result ≡ may_end self }
     {
-        match self {
-            Stage::Blocks => true,
-            Stage::Body => true,
-            _ => false,
-        }
+        matches!(self, Stage::Blocks | Stage::Body)
     }
 }

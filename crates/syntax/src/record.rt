@@ -127,7 +127,7 @@ impl Variable {
     pub fn set_range(&mut self, range: Range)
         ensures { self.new ≡ ranged self.old range }
     {
-        *self = Variable { range, ..*self };
+        self.range = range;
     }
 }
 

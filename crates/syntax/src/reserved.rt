@@ -1,8 +1,7 @@
-// The reserved words, each by the one comparison of names.
+// The reserved words.
 ghost use Rattle.std.specs.Prelude.{◌≡◌};
 ghost use Rattle.syntax.specs.Tokens.{among, logic_words, arithmetic_words, control_words, declaration_words, reserved_words};
 
-use crate::find::same_name;
 use crate::operator::{Command, Jump, Operator, Store};
 use crate::record::{Class, Constant, Kind};
 use crate::token::Token;
@@ -11,26 +10,17 @@ use crate::token::Token;
 fn logic(bytes: &[u8]) -> Option<Token>
     ensures { result ≡ among logic_words bytes.now }
 {
-    if same_name(bytes, b"LD") {
-        Some(Token::Command(Command::Apply(Operator::Ld)))
-    } else if same_name(bytes, b"LDN") {
-        Some(Token::Command(Command::Apply(Operator::Ldn)))
-    } else if same_name(bytes, b"AND") {
-        Some(Token::Command(Command::Apply(Operator::And)))
-    } else if same_name(bytes, b"ANDN") {
-        Some(Token::Command(Command::Apply(Operator::Andn)))
-    } else if same_name(bytes, b"OR") {
-        Some(Token::Command(Command::Apply(Operator::Or)))
-    } else if same_name(bytes, b"ORN") {
-        Some(Token::Command(Command::Apply(Operator::Orn)))
-    } else if same_name(bytes, b"XOR") {
-        Some(Token::Command(Command::Apply(Operator::Xor)))
-    } else if same_name(bytes, b"XORN") {
-        Some(Token::Command(Command::Apply(Operator::Xorn)))
-    } else if same_name(bytes, b"NOT") {
-        Some(Token::Command(Command::Not))
-    } else {
-        None
+    match bytes {
+        b"LD" => Some(Token::Command(Command::Apply(Operator::Ld))),
+        b"LDN" => Some(Token::Command(Command::Apply(Operator::Ldn))),
+        b"AND" => Some(Token::Command(Command::Apply(Operator::And))),
+        b"ANDN" => Some(Token::Command(Command::Apply(Operator::Andn))),
+        b"OR" => Some(Token::Command(Command::Apply(Operator::Or))),
+        b"ORN" => Some(Token::Command(Command::Apply(Operator::Orn))),
+        b"XOR" => Some(Token::Command(Command::Apply(Operator::Xor))),
+        b"XORN" => Some(Token::Command(Command::Apply(Operator::Xorn))),
+        b"NOT" => Some(Token::Command(Command::Not)),
+        _ => None,
     }
 }
 
@@ -38,28 +28,18 @@ fn logic(bytes: &[u8]) -> Option<Token>
 fn arithmetic(bytes: &[u8]) -> Option<Token>
     ensures { result ≡ among arithmetic_words bytes.now }
 {
-    if same_name(bytes, b"ADD") {
-        Some(Token::Command(Command::Apply(Operator::Add)))
-    } else if same_name(bytes, b"SUB") {
-        Some(Token::Command(Command::Apply(Operator::Sub)))
-    } else if same_name(bytes, b"MUL") {
-        Some(Token::Command(Command::Apply(Operator::Mul)))
-    } else if same_name(bytes, b"DIV") {
-        Some(Token::Command(Command::Apply(Operator::Div)))
-    } else if same_name(bytes, b"GT") {
-        Some(Token::Command(Command::Apply(Operator::Gt)))
-    } else if same_name(bytes, b"GE") {
-        Some(Token::Command(Command::Apply(Operator::Ge)))
-    } else if same_name(bytes, b"LT") {
-        Some(Token::Command(Command::Apply(Operator::Lt)))
-    } else if same_name(bytes, b"LE") {
-        Some(Token::Command(Command::Apply(Operator::Le)))
-    } else if same_name(bytes, b"EQ") {
-        Some(Token::Command(Command::Apply(Operator::Eq)))
-    } else if same_name(bytes, b"NE") {
-        Some(Token::Command(Command::Apply(Operator::Ne)))
-    } else {
-        None
+    match bytes {
+        b"ADD" => Some(Token::Command(Command::Apply(Operator::Add))),
+        b"SUB" => Some(Token::Command(Command::Apply(Operator::Sub))),
+        b"MUL" => Some(Token::Command(Command::Apply(Operator::Mul))),
+        b"DIV" => Some(Token::Command(Command::Apply(Operator::Div))),
+        b"GT" => Some(Token::Command(Command::Apply(Operator::Gt))),
+        b"GE" => Some(Token::Command(Command::Apply(Operator::Ge))),
+        b"LT" => Some(Token::Command(Command::Apply(Operator::Lt))),
+        b"LE" => Some(Token::Command(Command::Apply(Operator::Le))),
+        b"EQ" => Some(Token::Command(Command::Apply(Operator::Eq))),
+        b"NE" => Some(Token::Command(Command::Apply(Operator::Ne))),
+        _ => None,
     }
 }
 
@@ -67,24 +47,16 @@ fn arithmetic(bytes: &[u8]) -> Option<Token>
 fn control(bytes: &[u8]) -> Option<Token>
     ensures { result ≡ among control_words bytes.now }
 {
-    if same_name(bytes, b"ST") {
-        Some(Token::Command(Command::Store(Store::St)))
-    } else if same_name(bytes, b"STN") {
-        Some(Token::Command(Command::Store(Store::Stn)))
-    } else if same_name(bytes, b"S") {
-        Some(Token::Command(Command::Store(Store::Set)))
-    } else if same_name(bytes, b"R") {
-        Some(Token::Command(Command::Store(Store::Reset)))
-    } else if same_name(bytes, b"JMP") {
-        Some(Token::Command(Command::Jump(Jump::Jmp)))
-    } else if same_name(bytes, b"JMPC") {
-        Some(Token::Command(Command::Jump(Jump::Jmpc)))
-    } else if same_name(bytes, b"JMPCN") {
-        Some(Token::Command(Command::Jump(Jump::Jmpcn)))
-    } else if same_name(bytes, b"RET") {
-        Some(Token::Command(Command::Ret))
-    } else {
-        None
+    match bytes {
+        b"ST" => Some(Token::Command(Command::Store(Store::St))),
+        b"STN" => Some(Token::Command(Command::Store(Store::Stn))),
+        b"S" => Some(Token::Command(Command::Store(Store::Set))),
+        b"R" => Some(Token::Command(Command::Store(Store::Reset))),
+        b"JMP" => Some(Token::Command(Command::Jump(Jump::Jmp))),
+        b"JMPC" => Some(Token::Command(Command::Jump(Jump::Jmpc))),
+        b"JMPCN" => Some(Token::Command(Command::Jump(Jump::Jmpcn))),
+        b"RET" => Some(Token::Command(Command::Ret)),
+        _ => None,
     }
 }
 
@@ -92,24 +64,16 @@ fn control(bytes: &[u8]) -> Option<Token>
 fn declaration(bytes: &[u8]) -> Option<Token>
     ensures { result ≡ among declaration_words bytes.now }
 {
-    if same_name(bytes, b"VAR_INPUT") {
-        Some(Token::Block(Class::Input))
-    } else if same_name(bytes, b"VAR_OUTPUT") {
-        Some(Token::Block(Class::Output))
-    } else if same_name(bytes, b"VAR") {
-        Some(Token::Block(Class::Local))
-    } else if same_name(bytes, b"END_VAR") {
-        Some(Token::EndBlock)
-    } else if same_name(bytes, b"INT") {
-        Some(Token::Kind(Kind::Int))
-    } else if same_name(bytes, b"BOOL") {
-        Some(Token::Kind(Kind::Bool))
-    } else if same_name(bytes, b"TRUE") {
-        Some(Token::Constant(Constant::Bool(true)))
-    } else if same_name(bytes, b"FALSE") {
-        Some(Token::Constant(Constant::Bool(false)))
-    } else {
-        None
+    match bytes {
+        b"VAR_INPUT" => Some(Token::Block(Class::Input)),
+        b"VAR_OUTPUT" => Some(Token::Block(Class::Output)),
+        b"VAR" => Some(Token::Block(Class::Local)),
+        b"END_VAR" => Some(Token::EndBlock),
+        b"INT" => Some(Token::Kind(Kind::Int)),
+        b"BOOL" => Some(Token::Kind(Kind::Bool)),
+        b"TRUE" => Some(Token::Constant(Constant::Bool(true))),
+        b"FALSE" => Some(Token::Constant(Constant::Bool(false))),
+        _ => None,
     }
 }
 
@@ -117,14 +81,8 @@ fn declaration(bytes: &[u8]) -> Option<Token>
 pub fn reserved(bytes: &[u8]) -> Option<Token>
     ensures { result ≡ among reserved_words bytes.now }
 {
-    match logic(bytes) {
-        Some(token) => Some(token),
-        None => match arithmetic(bytes) {
-            Some(token) => Some(token),
-            None => match control(bytes) {
-                Some(token) => Some(token),
-                None => declaration(bytes),
-            },
-        },
-    }
+    logic(bytes)
+        .or_else(|| arithmetic(bytes))
+        .or_else(|| control(bytes))
+        .or_else(|| declaration(bytes))
 }

@@ -36,14 +36,8 @@ pub fn classify(word: Word) -> Token
     ensures { result ≡ token_of (seen word.entry) }
 {
     match word {
-        Word::Name(bytes) => match reserved(bytes) {
-            Some(token) => token,
-            None => Token::Name,
-        },
-        Word::Number(bytes) => match numbers::value(bytes) {
-            Some(n) => Token::Constant(Constant::Int(n)),
-            None => Token::Constant(Constant::Int(0)),
-        },
+        Word::Name(bytes) => reserved(bytes).unwrap_or(Token::Name),
+        Word::Number(bytes) => Token::Constant(Constant::Int(numbers::value(bytes).unwrap_or(0))),
         Word::Colon => Token::Sign(Sign::Colon),
         Word::Semicolon => Token::Sign(Sign::Semicolon),
         Word::Assign => Token::Sign(Sign::Assign),
