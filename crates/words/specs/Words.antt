@@ -1,5 +1,5 @@
 -- The words of a text: where each begins, what it is, and where the reading goes on.
-use Rattle.std.specs.Prelude.{ℕ, ◌+◌, cond, List, [], ◌∷◌, length, drop, Some, None, Ok, Err, Option, Result, ◌==◌, nat_lt, slice_index}
+use Rattle.std.specs.Prelude.{ℕ, ◌+◌, cond, List, [], ◌∷◌, length, drop, Some, None, Ok, Err, Option, Result, ◌==◌, nat_lt, slice_index, position, zip}
 use Rattle.std.specs.List.{between, prefix_len}
 use Rattle.std.specs.Char.{is_ascii_digit}
 use Rattle.numbers.specs.Int.{is_int}
@@ -28,10 +28,9 @@ blanks (inside q) p [] = Err (Unclosed q)
 blanks (inside q) p (b ∷ []) = Err (Unclosed q)
 blanks (inside q) p (b ∷ c ∷ rest) = cond (closes b c) (blanks outside (p + 2) rest) (blanks (inside q) (p + 1) (c ∷ rest))
 
--- how the blanks go on after the comment that begins at q, which ends at a place or never
-abbrev pub after_comment : ℕ → Option ℕ → List ℕ → Result ℕ WordFault
-after_comment q None text = Err (Unclosed q)
-after_comment q (Some e) text = blanks outside e (drop e text)
+-- how many bytes of a comment stand before the first two that close it; none where it is never closed
+abbrev pub closing : List ℕ → Option ℕ
+closing inner = position (λ p. closes p.0 p.1) (zip inner (drop 1 inner))
 
 -- what a word is, by its bytes
 pub data Lexeme : Type 0 where

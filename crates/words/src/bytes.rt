@@ -1,6 +1,6 @@
 // Kinds of bytes.
 ghost use Rattle.std.specs.Prelude.{◌≡◌, slice_index};
-ghost use Rattle.words.specs.Bytes.{blank, begins_name, in_name, goes_on, opens, closes};
+ghost use Rattle.words.specs.Bytes.{blank, begins_name, in_name, goes_on, closes};
 ghost use Rattle.words.specs.Words.{class_of};
 
 use crate::word::{Class, Run};
@@ -8,7 +8,7 @@ use crate::word::{Class, Run};
 pub fn is_blank(b: u8) -> bool
     ensures { result ≡ blank b }
 {
-    b == b' ' || b == b'\t' || b == b'\r' || b == b'\n'
+    matches!(b, b' ' | b'\t' | b'\r' | b'\n')
 }
 
 fn begins_name(b: u8) -> bool
@@ -27,12 +27,6 @@ pub fn goes_on(run: Run, b: u8) -> bool
     }
 }
 
-pub fn opens_comment(b: u8, c: u8) -> bool
-    ensures { result ≡ opens b c }
-{
-    b == b'(' && c == b'*'
-}
-
 pub fn closes_comment(b: u8, c: u8) -> bool
     ensures { result ≡ closes b c }
 {
@@ -42,17 +36,13 @@ pub fn closes_comment(b: u8, c: u8) -> bool
 pub fn class_of(b: u8) -> Class
     ensures { result ≡ class_of b }
 {
-    if begins_name(b) {
-        Class::Letter
-    } else if b.is_ascii_digit() {
-        Class::Digit
-    } else {
-        match b {
-            b'-' => Class::Minus,
-            b':' => Class::Colon,
-            b';' => Class::Semicolon,
-            _ => Class::Other,
-        }
+    match b {
+        _ if begins_name(b) => Class::Letter,
+        b'0'..=b'9' => Class::Digit,
+        b'-' => Class::Minus,
+        b':' => Class::Colon,
+        b';' => Class::Semicolon,
+        _ => Class::Other,
     }
 }
 
@@ -60,5 +50,5 @@ pub fn class_of(b: u8) -> Class
 pub fn byte_at(text: &[u8], place: usize) -> u8
     ensures { result ≡ slice_index text.now place }
 {
-    if place < text.len() { text[place] } else { 0 }
+    text.get(place).copied().unwrap_or(0)
 }

@@ -40,9 +40,8 @@ impl WordFault {
         ensures { result ≡ word_place self.now }
     {
         match self {
-            WordFault::Stray(place) => *place,
-            WordFault::Unclosed(place) => *place,
-            WordFault::OutsideInt(place) => *place,
+            WordFault::Stray(place) | WordFault::Unclosed(place) | WordFault::OutsideInt(place) =>
+                *place,
         }
     }
 }
@@ -58,7 +57,7 @@ pub enum Class {
     Other,
 }
 
-// The words that are as long as the bytes behind the first go on with them.
+// The words that are as long as the bytes behind the first go on with them; no closures, so that contracts can name the test.
 #[derive(Clone, Copy)]
 pub enum Run {
     Name,

@@ -1,10 +1,11 @@
 // How a reader moves over its text.
-ghost use Rattle.std.specs.Prelude.{◌≡◌, ◌<◌, ◌≤◌, length, IfOk, OnSome};
+ghost use Rattle.std.specs.Prelude.{◌≡◌, ◌<◌, ◌≤◌, length, drop, IfOk, OnSome};
 ghost use Rattle.words.specs.Laws.{Lawful, Only, KeepsLaws, KeepsThemAlone};
-ghost use Rattle.words.specs.Words.{next_at, answered, stands_at};
+ghost use Rattle.words.specs.Words.{blanks, outside, next_at, answered, stands_at};
 
 use super::Reader;
-use crate::scan::{blanks_end, word_at};
+use crate::bytes::is_blank;
+use crate::scan::{Start, closing};
 use crate::word::{Word, WordFault};
 
 // The next word of every text keeps the laws, and it alone.
@@ -32,14 +33,37 @@ impl<'t> Reader<'t> {
         ensures only { Only self.old.text.now self.old.place (answered result self.new.place) }
     {
         keeps_laws();
-        let start = blanks_end(self.text, self.place)?;
+        let start = self.blanks_end()?;
         if start < self.text.len() {
-            let (word, end) = word_at(self.text, start)?;
+            let begin = Start {
+                text: self.text,
+                place: start,
+            };
+            let (word, end) = begin.word()?;
             self.place = end;
             Ok(Some((start, word)))
         } else {
             self.place = start;
             Ok(None)
+        }
+    }
+
+    // The place where the blanks end.
+    fn blanks_end(&self) -> Result<usize, WordFault>
+        ensures is { result ≡ blanks outside self.now.place (drop self.now.place self.now.text.now) }
+        ensures within { IfOk result (λ e. (self.now.place ≤ e) × (e ≤ length self.now.text.now)) }
+    {
+        let text = self.text;
+        let mut place = self.place;
+        loop {
+            match &text[place..] {
+                [first, ..] if is_blank(*first) => place += 1,
+                [b'(', b'*', inner @ ..] => {
+                    let length = closing(inner).ok_or(WordFault::Unclosed(place))?;
+                    place += length + 4;
+                }
+                _ => return Ok(place),
+            }
         }
     }
 
