@@ -21,10 +21,7 @@ const MOST_STATEMENTS: usize = 1024;
 fn variable(text: &[u8], variables: &[Variable], name: Name) -> Result<usize, StatementFault>
     ensures { result ≡ variable_at text.now variables.now name }
 {
-    match find(text, variables, name) {
-        Some(index) => Ok(index),
-        None => Err(StatementFault::NoVariable(name.place)),
-    }
+    find(text, variables, name).ok_or(StatementFault::NoVariable(name.place))
 }
 
 // Whether a variable or a label has the name.

@@ -15,7 +15,8 @@ use syntax::grammar::Stage;
 use syntax::record::{Statement, Variable};
 use words::Reader;
 
-const MOST_BYTES: usize = 65_535;
+// The longest text that is read, in bytes.
+pub const MOST_BYTES: usize = 65_535;
 
 // Lets each word of the text do what it does.
 fn take_words(

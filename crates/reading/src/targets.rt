@@ -15,16 +15,16 @@ fn aim(
     ensures { result ≡ aimed_statement (label_in text.now statements.now) statement }
 {
     match statement.operation() {
-        Operation::Jump(jump, target) => match find(text, statements, target.name) {
-            Some(index) => {
-                let target = Target {
-                    name: target.name,
-                    statement: index,
-                };
-                Ok(Statement::new(Operation::Jump(jump, target), statement.place()))
-            }
-            None => Err(ProgramFault::NoLabel(target.name.place)),
-        },
+        Operation::Jump(jump, target) => {
+            let label = find(text, statements, target.name).ok_or(ProgramFault::NoLabel(
+                target.name.place,
+            ))?;
+            let target = Target {
+                statement: label,
+                ..target
+            };
+            Ok(Statement::new(Operation::Jump(jump, target), statement.place()))
+        }
         _ => Ok(statement),
     }
 }
@@ -45,13 +45,9 @@ fn ends_with_return(statements: &[Statement], count: usize) -> bool
     requires { count ≤ length statements.now }
     ensures { result ≡ ends_with_return count statements.now }
 {
-    if count == 0 {
-        return false;
-    }
-    match statements[count - 1].operation() {
-        Operation::Return => true,
-        _ => false,
-    }
+    statements[..count]
+        .last()
+        .is_some_and(|last| matches!(last.operation(), Operation::Return))
 }
 
 // Looks at the first `count` statements at the end of their text.
