@@ -1,4 +1,3 @@
-pub mod Rooms
 pub mod Turns
 pub mod Aims
 pub mod Sound
