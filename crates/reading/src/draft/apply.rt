@@ -1,7 +1,6 @@
 // What each word that fits does to a program in the making.
 ghost use Rattle.std.specs.Prelude.{◌≡◌, ◌<◌, length, IfOk, Ok};
 ghost use Rattle.syntax.specs.Records.{declared_as};
-ghost use Rattle.syntax.specs.declared.grammar.Step.TheVariants.{Declare as declare, Label as label};
 ghost use Rattle.reading.specs.Drafts.{declared_in, statements_in, is_known, if_variable_fits, if_statement_fits, if_new, with_variable, with_statement, begun_with, completed, entered, variable_at, applied};
 ghost use Rattle.reading.specs.Lent.{draft, Becomes};
 
@@ -154,7 +153,7 @@ impl<'t, 'r> Draft<'t, 'r> {
 
     // A new variable's name.
     fn declare(&mut self, class: Class, name: Name) -> Result<(), ProgramFault>
-        ensures { Becomes (applied self.old.text.now (draft self.old) name (declare class)) result self.old self.new }
+        ensures { Becomes (applied self.old.text.now (draft self.old) name (Step.Declare class)) result self.old self.new }
     {
         self.want_new(name)?;
         self.want_variable_place(name.place)?;
@@ -164,7 +163,7 @@ impl<'t, 'r> Draft<'t, 'r> {
 
     // A new label's name, which is a statement.
     fn label(&mut self, name: Name) -> Result<(), ProgramFault>
-        ensures { Becomes (applied self.old.text.now (draft self.old) name label) result self.old self.new }
+        ensures { Becomes (applied self.old.text.now (draft self.old) name Step.Label) result self.old self.new }
     {
         self.want_new(name)?;
         self.keep_statement(Operation::Label(name), name.place, Stage::LabelColon)
