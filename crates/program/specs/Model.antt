@@ -1,5 +1,6 @@
 -- A program as plain data: the records that it has in use, and all that it keeps.
-use Rattle.std.specs.Prelude.{◌≡◌, ℕ, ◌+◌, ◌-◌, Bool, true, false, cond, List, [], ◌∷◌, get_or, take, ℤ, Some, None, Ok, Err, Option, Result, ◌==◌, int_lt, slice_index_or, slice_set}
+use Rattle.std.specs.List.{enumerate_from}
+use Rattle.std.specs.Prelude.{map, slice_get, filter, ◌≡◌, ℕ, ◌+◌, ◌-◌, Bool, true, false, cond, List, [], ◌∷◌, get_or, take, ℤ, Some, None, Ok, Err, Option, Result, ◌==◌, int_lt, slice_index_or, slice_set}
 use Rattle.syntax.specs.declared.record.Class.{Class}
 use Rattle.syntax.specs.declared.record.Class.TheVariants.{Local, Input, Output}
 use Rattle.syntax.specs.declared.record.Constant.{Constant}
@@ -65,9 +66,7 @@ is_input Output = false
 
 -- the variable, counted from i, that is the input at a position from 0 among all inputs
 abbrev pub input_from : ℕ → List Variable → ℕ → Option ℕ
-input_from i [] position = None
-input_from i (v ∷ vs) position =
-    cond (is_input v.declaration.class) (cond (position == 0) (Some i) (input_from (i + 1) vs (position - 1))) (input_from (i + 1) vs position)
+input_from i vs position = slice_get (map (λ (x : ℕ × Variable). x.0) (filter (λ (x : ℕ × Variable). is_input x.1.declaration.class) (enumerate_from i vs))) position
 
 -- the input is an INT
 abbrev pub is_int : Constant → Bool

@@ -1,5 +1,3 @@
-pub mod Finding
-pub mod Rooms
 pub mod Turns
 pub mod Aims
 pub mod Sound

@@ -71,10 +71,10 @@ with_statement d s stage = record {
 }
 
 -- what follows where there is room for one variable, or one statement, more
-abbrev pub if_variable_fits : Draft → ℕ → Draft → Result Draft ProgramFault
+abbrev pub if_variable_fits : {X : Type 0} → Draft → ℕ → X → Result X ProgramFault
 if_variable_fits d place next = cond (nat_lt d.progress.variables (room_for_variables d)) (Ok next) (Err (p.VariablesFull place))
 
-abbrev pub if_statement_fits : Draft → ℕ → Draft → Result Draft ProgramFault
+abbrev pub if_statement_fits : {X : Type 0} → Draft → ℕ → X → Result X ProgramFault
 if_statement_fits d place next = cond (nat_lt d.progress.statements (room_for_statements d)) (Ok next) (Err (p.StatementsFull place))
 
 -- a name is known when a variable or a label has it
@@ -82,7 +82,7 @@ abbrev pub is_known : List ℕ → Draft → Name → Bool
 is_known text d name = is_some (found variable_name text name 0 (declared_in d)) || is_some (found label_name text name 0 (statements_in d))
 
 -- a new name is none that is known
-abbrev pub if_new : List ℕ → Draft → Name → Result Draft ProgramFault → Result Draft ProgramFault
+abbrev pub if_new : {X : Type 0} → List ℕ → Draft → Name → Result X ProgramFault → Result X ProgramFault
 if_new text d name next = cond (is_known text d name) (Err (p.Redeclared name.place)) next
 
 -- an operator at a place begins a statement; RET and NOT are whole already
@@ -120,8 +120,3 @@ applied text d name (Complete o k place) = completed d (operation.Apply o (opera
 applied text d name (Use o place) = completed_by d (λ i. operation.Apply o (operand.Variable i)) place (variable_at text (declared_in d) name)
 applied text d name (Change s place) = completed_by d (λ i. operation.Store s i) place (variable_at text (declared_in d) name)
 applied text d name (Aim j place) = completed d (operation.Jump j (record { name = name; statement = 0 })) place
-
--- what the code answers, beside its records
-abbrev pub drafted : Result Progress ProgramFault → List Variable → List Statement → Result Draft ProgramFault
-drafted (Ok p) vs ss = Ok (draft_of p vs ss)
-drafted (Err e) vs ss = Err e

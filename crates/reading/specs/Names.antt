@@ -1,5 +1,6 @@
 -- Which records have names, and which of them has a given one.
-use Rattle.std.specs.Prelude.{ℕ, ◌+◌, Bool, false, cond, List, [], ◌∷◌, Some, None, Option}
+use Rattle.std.specs.Prelude.{ℕ, Bool, false, List, Some, None, Option}
+use Rattle.std.specs.List.{position_from}
 use Rattle.syntax.specs.declared.record.Name.{Name}
 use Rattle.syntax.specs.declared.record.Variable.{Variable}
 use Rattle.syntax.specs.declared.record.Operation.{Operation}
@@ -34,5 +35,4 @@ module _ {T : Type 0} (named : T → Option Name) (text : List ℕ) (name : Name
 
   -- the place in the list, counted from i, of the record that has the name
   abbrev pub found : ℕ → List T → Option ℕ
-  found i [] = None
-  found i (x ∷ xs) = cond (has_name x) (Some i) (found (i + 1) xs)
+  found i xs = position_from has_name i xs

@@ -1,5 +1,11 @@
 // A program in the making.
+ghost use Rattle.reading.specs.Drafts.{Fits};
+
 use syntax::grammar::Stage;
+use syntax::record::{Statement, Variable};
+
+mod apply;
+mod making;
 
 // The stage that the text has come to, and how many records are in use.
 #[derive(Clone, Copy)]
@@ -14,4 +20,14 @@ pub struct Progress {
 pub struct Extent {
     pub variables: usize,
     pub statements: usize,
+}
+
+// A text, and the caller's records with what its words have put there so far.
+#[derive(Drop)]
+pub(crate) struct Draft<'t, 'r> {
+    text: &'t [u8],
+    variables: &'r mut [Variable],
+    statements: &'r mut [Statement],
+    progress: Progress,
+    ghost fits: { Fits progress variables.now statements.now },
 }

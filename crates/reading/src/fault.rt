@@ -4,6 +4,7 @@ ghost use Rattle.reading.specs.declared.fault.StatementFault.TheVariants.{Word};
 ghost use Rattle.reading.specs.declared.fault.ProgramFault.TheVariants.{Statement};
 ghost use Rattle.reading.specs.Faults.{statement_number, statement_place, program_number, program_place, program_layer, range_number, range_place};
 
+use crate::fill::MOST_BYTES;
 use words::WordFault;
 
 // A fault of the words, or of one statement or declaration.
@@ -80,8 +81,7 @@ impl StatementFault {
     {
         match self {
             StatementFault::Word(fault) => fault.place(),
-            StatementFault::Misfit(place) => *place,
-            StatementFault::NoVariable(place) => *place,
+            StatementFault::Misfit(place) | StatementFault::NoVariable(place) => *place,
         }
     }
 }
@@ -108,12 +108,12 @@ impl ProgramFault {
     {
         match self {
             ProgramFault::Statement(fault) => fault.place(),
-            ProgramFault::TooLong => 65_535,
-            ProgramFault::Redeclared(place) => *place,
-            ProgramFault::VariablesFull(place) => *place,
-            ProgramFault::StatementsFull(place) => *place,
-            ProgramFault::NoReturn(place) => *place,
-            ProgramFault::NoLabel(place) => *place,
+            ProgramFault::TooLong => MOST_BYTES,
+            ProgramFault::Redeclared(place)
+            | ProgramFault::VariablesFull(place)
+            | ProgramFault::StatementsFull(place)
+            | ProgramFault::NoReturn(place)
+            | ProgramFault::NoLabel(place) => *place,
         }
     }
 
@@ -134,8 +134,7 @@ impl RangeFault {
         ensures { result ≡ range_number self.now }
     {
         match self {
-            RangeFault::NoIntInput(_) => 12,
-            RangeFault::LowAboveHigh(_) => 12,
+            RangeFault::NoIntInput(_) | RangeFault::LowAboveHigh(_) => 12,
         }
     }
 
@@ -143,8 +142,7 @@ impl RangeFault {
         ensures { result ≡ range_place self.now }
     {
         match self {
-            RangeFault::NoIntInput(position) => *position,
-            RangeFault::LowAboveHigh(position) => *position,
+            RangeFault::NoIntInput(position) | RangeFault::LowAboveHigh(position) => *position,
         }
     }
 }

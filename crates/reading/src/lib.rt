@@ -1,7 +1,6 @@
 // How a text becomes the records of a program, or is refused.
 #![tactic(auto)]
 
-mod apply;
 pub mod draft;
 pub mod fault;
 pub mod fill;

@@ -47,10 +47,9 @@ impl Named for Statement {
 fn has_name<T: Named>(text: &[u8], entry: &T, name: Name) -> bool
     ensures { result ≡ has_name T.Named.named text.now name entry.now }
 {
-    match entry.declared_name() {
-        Some(own) => same_name(name_in(text, own), name_in(text, name)),
-        None => false,
-    }
+    entry
+        .declared_name()
+        .is_some_and(|own| same_name(name_in(text, own), name_in(text, name)))
 }
 
 // Which of the records has the name.
@@ -58,10 +57,5 @@ pub fn find<T: Named>(text: &[u8], records: &[T], name: Name) -> Option<usize>
     ensures is { result ≡ found T.Named.named text.now name 0 records.now }
     ensures within { IfSome result (λ i. i < length records.now) }
 {
-    for (i, each) in records.iter().enumerate() {
-        if has_name(text, each, name) {
-            return Some(i);
-        }
-    }
-    None
+    records.iter().position(|each| has_name(text, each, name))
 }

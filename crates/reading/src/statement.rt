@@ -29,22 +29,14 @@ pub(crate) fn next_step(
     ensures on { IfOk result (λ o. OnSome o (reader.old.place < reader.new.place)) }
 {
     match reader.next_word()? {
-        Some((place, word)) => match stage.follow(classify(word)) {
-            Some(step) => Ok(Some((
-                Name {
-                    place,
-                    length: name_length(word),
-                },
-                step,
-            ))),
-            None => Err(StatementFault::Misfit(place)),
-        },
-        None => {
-            if stage.may_end() {
-                Ok(None)
-            } else {
-                Err(StatementFault::Misfit(reader.end()))
-            }
+        Some((place, word)) => {
+            let step = stage
+                .follow(classify(word))
+                .ok_or(StatementFault::Misfit(place))?;
+            let length = name_length(word);
+            Ok(Some((Name { place, length }, step)))
         }
+        None if stage.may_end() => Ok(None),
+        None => Err(StatementFault::Misfit(reader.end())),
     }
 }

@@ -15,16 +15,16 @@ fn aim(
     ensures { result ≡ aimed_statement (label_in text.now statements.now) statement }
 {
     match statement.operation() {
-        Operation::Jump(jump, target) => match find(text, statements, target.name) {
-            Some(index) => {
-                let target = Target {
-                    name: target.name,
-                    statement: index,
-                };
-                Ok(Statement::new(Operation::Jump(jump, target), statement.place()))
-            }
-            None => Err(ProgramFault::NoLabel(target.name.place)),
-        },
+        Operation::Jump(jump, target) => {
+            let label = find(text, statements, target.name).ok_or(ProgramFault::NoLabel(
+                target.name.place,
+            ))?;
+            let target = Target {
+                statement: label,
+                ..target
+            };
+            Ok(Statement::new(Operation::Jump(jump, target), statement.place()))
+        }
         _ => Ok(statement),
     }
 }
@@ -33,6 +33,7 @@ fn aim(
 pub(crate) fn aim_jumps(text: &[u8], statements: &mut [Statement]) -> Result<(), ProgramFault>
     ensures { aimed_is result statements.new ≡ aimed_all (label_in text.now statements.old) statements.old }
 {
+    // by index: each jump looks among all statements, also those that an iterator would have lent
     for i in 0..statements.len() {
         let statement = aim(text, statements, statements[i])?;
         statements[i] = statement;
@@ -40,31 +41,11 @@ pub(crate) fn aim_jumps(text: &[u8], statements: &mut [Statement]) -> Result<(),
     Ok(())
 }
 
-// Whether the last of the first `count` statements is RET.
-fn ends_with_return(statements: &[Statement], count: usize) -> bool
-    requires { count ≤ length statements.now }
-    ensures { result ≡ ends_with_return count statements.now }
+// Whether there is a last statement, and it is RET.
+pub(crate) fn ends_with_return(statements: &[Statement]) -> bool
+    ensures { result ≡ ends_with_return (length statements.now) statements.now }
 {
-    if count == 0 {
-        return false;
-    }
-    match statements[count - 1].operation() {
-        Operation::Return => true,
-        _ => false,
-    }
-}
-
-// Looks at the first `count` statements at the end of their text.
-pub(crate) fn finish(
-    text: &[u8],
-    statements: &mut [Statement],
-    count: usize,
-) -> Result<(), ProgramFault>
-    requires { count ≤ length statements.old }
-    ensures { aimed_is result statements.new ≡ ended text.now count statements.old }
-{
-    if !ends_with_return(statements, count) {
-        return Err(ProgramFault::NoReturn(text.len()));
-    }
-    aim_jumps(text, &mut statements[0..count])
+    statements
+        .last()
+        .is_some_and(|last| matches!(last.operation(), Operation::Return))
 }

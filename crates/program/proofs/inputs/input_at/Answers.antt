@@ -1,25 +1,22 @@
-use Rattle.std.proofs.Common.{◌+◌, drop, sym, ap, ◌∙◌}
-use Rattle.program.specs.Model.{is_input, input_from}
-use Rattle.program.proofs.Positions.{input-found, input-counted, input-passed, input_none}
+use Rattle.std.proofs.Common.{◌≡◌, ℕ, List, Option, Some, None, refl, sym, ap, ◌∙◌, rules, tests}
+use Rattle.std.specs.Prelude.{option_map}
+use Rattle.std.proofs.lemmas.Iterator.{YieldsList-from_slice, YieldsList-from_map}
+use Rattle.std.proofs.lemmas.Iterator.Consumers.{YieldsList-at, YieldsList-from_filter, YieldsList-from_enumerate, nth_from_yields_List}
+use Rattle.syntax.specs.declared.record.Variable.{Variable}
+use Rattle.program.specs.Model.{is_input}
 use Rattle.program.proofs.inputs.input_at.Goals as goal
-use Rattle.program.proofs.inputs.input_at.Goals.{then-is_input+else-left-eq0, else-is_input}
 
-pub returns-then-left-eq0 : goal.returns-then-left-eq0
-returns-then-left-eq0 c = record {
-  is = sym (input-found c.args.variables.now c.loop-i.i c.loop-i.left c.loop-i-test.true (ap (λ d. is_input d.class) (sym c.declaration.ensures) ∙ sym c.if-is_input.ensures) c.if-left-eq0.true) ∙ c.loop-i.invariant;
-  within = c.loop-i-test.true;
-}
+unmapped : (o : Option ℕ) → option_map (λ (n : ℕ). n) o ≡ o
+unmapped None = refl
+unmapped (Some n) = refl
 
-pub loop-i-preserved : goal.loop-i-preserved
-loop-i-preserved c =
-    let vs = c.args.variables.now in
-    let i = c.loop-i.i in
-    let k = c.loop-i.left in
-    let class = ap (λ d. is_input d.class) (sym c.declaration.ensures) in
-    elim c.if-is_input.branch [
-      | then-is_input+else-left-eq0 w ↦ ap (input_from (i + 1) (drop (i + 1) vs)) w.left-is ∙ sym (input-counted vs i k c.loop-i-test.true (class ∙ sym w.if-is_input.ensures) w.if-left-eq0.false) ∙ c.loop-i.invariant
-      | else-is_input w ↦ ap (input_from (i + 1) (drop (i + 1) vs)) w.left-is ∙ sym (input-passed vs i k c.loop-i-test.true (class ∙ sym w.if-is_input.ensures)) ∙ c.loop-i.invariant
-    ]
-
-pub returns : goal.returns
-returns c = record { is = sym (input_none c.args.variables.now c.loop-i.i c.loop-i.left c.loop-i-test.false) ∙ c.loop-i.invariant; within = tt }
+pub returns-clause-is : goal.returns-clause-is
+returns-clause-is c =
+    sym (unmapped c.nth.result)
+    ∙ nth_from_yields_List c.nth.result _ c.args.position c.nth.ensures.ran
+    (YieldsList-from_map _ (λ (x : ℕ × Variable). x.0)
+    (YieldsList-at c.map.ensures.source
+    (YieldsList-from_filter _ (λ (x : ℕ × Variable). is_input x.1.declaration.class)
+    (YieldsList-at c.filter.ensures.source (YieldsList-from_enumerate (YieldsList-at c.enumerate.ensures.source (YieldsList-from_slice c.args.variables.now c.iter.ensures.rest)) c.enumerate.ensures.count))
+    c.filter.ensures.closure (λ x r q k. search (rules, tests))))
+    c.map.ensures.closure (λ x r q k. search rules))
