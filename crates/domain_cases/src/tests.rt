@@ -102,13 +102,11 @@ fn lists(rt: HostRuntime) {
 
 #[test]
 fn lists_out_of_form(rt: HostRuntime) {
-    let falling = NumberList {
-        everything: false,
+    let falling = NumberList::Numbers {
         count: 2,
         numbers: [5, 2, 0, 0, 0, 0, 0, 0],
     };
-    let long = NumberList {
-        everything: false,
+    let long = NumberList::Numbers {
         count: 9,
         numbers: [1, 2, 3, 4, 5, 6, 7, 8],
     };

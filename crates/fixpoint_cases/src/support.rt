@@ -28,11 +28,7 @@ pub(crate) const EVERYTHING: Cell<NumberList> = Cell {
     unset: true,
     can_be_false: true,
     can_be_true: true,
-    numbers: NumberList {
-        everything: true,
-        count: 0,
-        numbers: [0; 8],
-    },
+    numbers: NumberList::Everything,
 };
 
 // The sweeps that a table took, or the number and the place of a refusal.
@@ -61,10 +57,9 @@ pub(crate) fn parts(cell: Cell<Interval>) -> (u8, i16, i16) {
 
 // The flags, whether it is everything, how many numbers there are and the first of them.
 pub(crate) fn list_parts(cell: Cell<NumberList>) -> (u8, bool, u8, i16) {
-    (
-        flags(cell.unset, cell.can_be_false, cell.can_be_true),
-        cell.numbers.everything,
-        cell.numbers.count,
-        cell.numbers.numbers[0],
-    )
+    let flags = flags(cell.unset, cell.can_be_false, cell.can_be_true);
+    match cell.numbers {
+        NumberList::Everything => (flags, true, 0, 0),
+        NumberList::Numbers { count, numbers } => (flags, false, count, numbers[0]),
+    }
 }

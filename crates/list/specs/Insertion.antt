@@ -1,9 +1,9 @@
 -- How a record takes in one number more.
-use Rattle.std.specs.Prelude.{ℕ, ◌+◌, ◌-◌, Bool, false, cond, ◌&&◌, ◌||◌, List, ◌∷◌, ◌++◌, length, take, drop, ℤ, pos, ◌==◌, int_lt, nat_lt, slice_index_or}
+use Rattle.std.specs.Prelude.{ℕ, ◌+◌, ◌-◌, Bool, cond, ◌&&◌, List, ◌∷◌, ◌++◌, length, take, drop, ℤ, pos, ◌==◌, int_lt, nat_lt, slice_index_or}
 use Rattle.std.specs.List.{prefix_len}
 use Rattle.numbers.specs.Arithmetic.{eq_z}
-use Rattle.list.specs.NumberList.{everything}
 use Rattle.list.specs.declared.NumberList.{NumberList}
+use Rattle.list.specs.declared.NumberList.TheVariants.{Everything, Numbers}
 
 -- how many numbers stand at the front that are below n
 abbrev pub place : List ℤ → ℤ → ℕ
@@ -19,8 +19,9 @@ shifted_in xs p n = take p xs ++ (n ∷ take (length xs - 1 - p) (drop p xs))
 
 -- the record with n at its place; everything where n is a ninth number
 abbrev pub put_in : NumberList → ℤ → NumberList
-put_in x n =
-    cond (x.everything || nat_lt 8 x.count) everything
-    (cond (stands_at (take x.count x.numbers) (place (take x.count x.numbers) n) n) x
-    (cond (x.count == 8) everything
-    record { everything = false; count = x.count + 1; numbers = shifted_in x.numbers (place (take x.count x.numbers) n) n }))
+put_in Everything n = Everything
+put_in (Numbers count numbers) n =
+    cond (nat_lt 8 count) Everything
+    (cond (stands_at (take count numbers) (place (take count numbers) n) n) (Numbers count numbers)
+    (cond (count == 8) Everything
+    (Numbers (count + 1) (shifted_in numbers (place (take count numbers) n) n))))

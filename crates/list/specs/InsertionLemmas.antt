@@ -9,9 +9,10 @@ use Rattle.std.proofs.lemmas.Bool.{cond-true, cond-false, and_parts, false≢tru
 use Rattle.std.proofs.lemmas.Bool.Decides.{nat_tests}
 use Rattle.numbers.specs.Arithmetic.{eq_z}
 use Rattle.list.specs.Insertion.{place, stands_at, shifted_in, put_in}
-use Rattle.list.specs.NumberList.{packed, everything}
+use Rattle.list.specs.NumberList.{packed}
 use Rattle.list.specs.Numbers.{placed}
 use Rattle.list.specs.declared.NumberList.{NumberList}
+use Rattle.list.specs.declared.NumberList.TheVariants.{Everything, Numbers}
 
 -- one place further on in a longer list
 further : (x : ℤ) (xs : List ℤ) (p : ℕ) (n : ℤ) → stands_at (x ∷ xs) (1 + p) n ≡ stands_at xs p n
@@ -72,31 +73,28 @@ shifted-packed xs p m n h =
 
 -- the record of a list that is short enough, and of a longer one
 abbrev record_of : List ℤ → NumberList
-record_of xs = record { everything = false; count = length xs; numbers = xs ++ replicate (8 - length xs) (pos 0) }
+record_of xs = Numbers (length xs) (xs ++ replicate (8 - length xs) (pos 0))
 
 pub packed-short : (xs : List ℤ) → length xs ≤ 8 → packed xs ≡ record_of xs
 packed-short xs h = cond-true _ _ _ (le-leb _ _ h)
 
-pub packed-long : (xs : List ℤ) → 8 < length xs → packed xs ≡ everything
+pub packed-long : (xs : List ℤ) → 8 < length xs → packed xs ≡ Everything
 packed-long xs h = cond-false _ _ _ (lt-leb _ _ h)
 
 -- the numbers of a record that is short enough are those of the list
 pub front : (xs : List ℤ) → take (length xs) (xs ++ replicate (8 - length xs) (pos 0)) ≡ xs
 front xs = take_at xs _ (length xs) refl
 
-put-short : (xs : List ℤ) (n : ℤ) → length xs ≤ 8 → put_in (record_of xs) n ≡ cond (stands_at xs (place xs n) n) (record_of xs) (cond (length xs == 8) everything record { everything = false; count = length xs + 1; numbers = shifted_in (xs ++ replicate (8 - length xs) (pos 0)) (place xs n) n })
+put-short : (xs : List ℤ) (n : ℤ) → length xs ≤ 8 → put_in (record_of xs) n ≡ cond (stands_at xs (place xs n) n) (record_of xs) (cond (length xs == 8) Everything (Numbers (length xs + 1) (shifted_in (xs ++ replicate (8 - length xs) (pos 0)) (place xs n) n)))
 put-short xs n h =
     cond-false _ _ _ (le-ltb 8 (length xs) h)
-    ∙ ap (λ (ys : List ℤ). cond (stands_at ys (place ys n) n) (record_of xs) (cond (length xs == 8) everything record { everything = false; count = length xs + 1; numbers = shifted_in (xs ++ replicate (8 - length xs) (pos 0)) (place ys n) n })) (front xs)
+    ∙ ap (λ (ys : List ℤ). cond (stands_at ys (place ys n) n) (record_of xs) (cond (length xs == 8) Everything (Numbers (length xs + 1) (shifted_in (xs ++ replicate (8 - length xs) (pos 0)) (place ys n) n)))) (front xs)
 
 put-standing : (xs : List ℤ) (n : ℤ) → length xs ≤ 8 → stands_at xs (place xs n) n ≡ true → put_in (record_of xs) n ≡ packed (placed xs n)
 put-standing xs n h e = put-short xs n h ∙ cond-true _ _ _ e ∙ sym (packed-short xs h) ∙ ap packed (sym (placed-standing xs n e))
 
 put-ninth : (xs : List ℤ) (n : ℤ) → length xs ≡ 8 → stands_at xs (place xs n) n ≡ false → put_in (record_of xs) n ≡ packed (placed xs n)
 put-ninth xs n h e = put-short xs n (omega arith) ∙ cond-false _ _ _ e ∙ cond-true _ _ _ (eq-eqb _ _ h) ∙ sym (packed-long (placed xs n) (omega (arith, length-new xs n e)))
-
-abbrev record_with : ℕ → List ℤ → NumberList
-record_with k zs = record { everything = false; count = k; numbers = zs }
 
 put-new : (xs : List ℤ) (n : ℤ) → length xs < 8 → stands_at xs (place xs n) n ≡ false → put_in (record_of xs) n ≡ packed (placed xs n)
 put-new xs n h e =
@@ -105,7 +103,7 @@ put-new xs n h e =
     let room : 8 - length xs ≡ 8 - length (placed xs n) + 1 = omega arith in
     let numbers : shifted_in (xs ++ replicate (8 - length xs) (pos 0)) (place xs n) n ≡ placed xs n ++ replicate (8 - length (placed xs n)) (pos 0) =
     ap (λ (k : ℕ). shifted_in (xs ++ replicate k (pos 0)) (place xs n) n) room ∙ shifted-packed xs (place xs n) (8 - length (placed xs n)) n (place-le xs n) ∙ ap (λ (zs : List ℤ). zs ++ replicate (8 - length (placed xs n)) (pos 0)) (sym (placed-new xs n e)) in
-    let same : record_with (length xs + 1) (shifted_in (xs ++ replicate (8 - length xs) (pos 0)) (place xs n) n) ≡ record_of (placed xs n) = ap (λ (k : ℕ). record_with k (shifted_in (xs ++ replicate (8 - length xs) (pos 0)) (place xs n) n)) (sym long) ∙ ap (record_with (length (placed xs n))) numbers in
+    let same : Numbers (length xs + 1) (shifted_in (xs ++ replicate (8 - length xs) (pos 0)) (place xs n) n) ≡ record_of (placed xs n) = ap (λ (k : ℕ). Numbers k (shifted_in (xs ++ replicate (8 - length xs) (pos 0)) (place xs n) n)) (sym long) ∙ ap (Numbers (length (placed xs n))) numbers in
     put-short xs n (omega arith) ∙ cond-false _ _ _ e ∙ cond-false _ _ _ (ne_eqb (length xs) 8 (omega arith)) ∙ same ∙ sym (packed-short (placed xs n) (omega arith))
 
 -- a record that takes in a number is the record of the list that does

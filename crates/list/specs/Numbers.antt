@@ -1,16 +1,15 @@
 -- Lists of whole numbers, of any length: membership, order, results of pairs.
-use Rattle.std.specs.Prelude.{ℕ, zero, suc, Bool, true, false, cond, ◌&&◌, ◌||◌, List, [], ◌∷◌, ◌++◌, ℤ, pos, ◌+ℤ◌, Some, None, fold, Option, int_le, int_lt}
+use Rattle.std.specs.Prelude.{ℕ, zero, suc, Bool, true, cond, ◌&&◌, List, [], ◌∷◌, ◌++◌, ℤ, pos, ◌+ℤ◌, Some, None, fold, Option, int_le, int_lt}
+use Rattle.std.specs.List.{list_any, list_all}
 use Rattle.numbers.specs.Arithmetic.{eq_z}
 
 -- n stands in the list
 abbrev pub member : ℤ → List ℤ → Bool
-member n [] = false
-member n (x ∷ xs) = eq_z x n || member n xs
+member n xs = list_any (λ x. eq_z x n) xs
 
 -- every number of the first list stands in the second
 abbrev pub all_in : List ℤ → List ℤ → Bool
-all_in [] ys = true
-all_in (x ∷ xs) ys = member x ys && all_in xs ys
+all_in xs ys = list_all (λ x. member x ys) xs
 
 -- the numbers ascend strictly, from above p on
 abbrev pub rising : ℤ → List ℤ → Bool
@@ -53,10 +52,8 @@ pairs op (a ∷ xs) ys = row op a ys ++ pairs op xs ys
 
 -- a passes the test with some number of the list
 abbrev pub some_with : (ℤ → ℤ → Bool) → ℤ → List ℤ → Bool
-some_with test a [] = false
-some_with test a (b ∷ ys) = test a b || some_with test a ys
+some_with test a ys = list_any (test a) ys
 
 -- some pair passes the test, one number from each list
 abbrev pub some_pair : (ℤ → ℤ → Bool) → List ℤ → List ℤ → Bool
-some_pair test [] ys = false
-some_pair test (a ∷ xs) ys = some_with test a ys || some_pair test xs ys
+some_pair test xs ys = list_any (λ a. some_with test a ys) xs

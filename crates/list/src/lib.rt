@@ -1,11 +1,11 @@
 // The list domain: up to eight INTs, or everything.
 #![tactic(auto)]
 
-ghost use Rattle.std.specs.Prelude.{◌≡◌, [], ◌++◌, fold};
+ghost use Rattle.std.specs.Prelude.{◌≡◌, Bool, ◌++◌, ℤ, fold, Option};
 ghost use Rattle.list.specs.Insertion.{put_in};
-ghost use Rattle.list.specs.NumberList.{listed, everything, packed, smallest, is_empty, is_within, results, some, list_ops};
-ghost use Rattle.list.specs.Numbers.{if_any, row, pairs, some_with, some_pair, counted};
-ghost use Rattle.list.specs.Operations.{result_of, passes};
+ghost use Rattle.list.specs.NumberList.{is_everything, listed, smallest, is_empty, is_within, results, some, list_ops};
+ghost use Rattle.list.specs.Numbers.{row, pairs, some_with, some_pair, counted};
+ghost use Rattle.list.specs.Operations.{Computes};
 ghost use Rattle.list.specs.Meaning;
 
 mod numbers_of;
@@ -13,49 +13,39 @@ mod operations;
 
 use domain::{Domain, Truth};
 use numbers::Int;
-use numbers_of::{ascends, has, has_all, place_of, shifted, stands_at};
-use operations::{Operation, Test};
+use numbers_of::{ascends, has_all, place_of, shifted, stands_at};
+use operations::{difference, product, quotient, sum};
 
-// Everything, or the first `count` of the numbers, which ascend strictly. A record out of that form contains nothing.
+// All INTs, or the first `count` of the numbers, which ascend strictly. A record out of that form contains nothing.
 #[derive(Clone, Copy, PartialEq, Eq, Debug)]
-pub struct NumberList {
-    pub everything: bool,
-    pub count: u8,
-    pub numbers: [Int; 8],
-}
-
-// The set of all INTs.
-fn all() -> NumberList
-    ensures { result ≡ everything }
-{
-    NumberList {
-        everything: true,
-        count: 0,
-        numbers: [0; 8],
-    }
-}
-
-// The set without a number.
-fn none() -> NumberList
-    ensures { result ≡ packed [] }
-{
-    NumberList {
-        everything: false,
-        count: 0,
-        numbers: [0; 8],
-    }
+pub enum NumberList {
+    Everything,
+    Numbers { count: u8, numbers: [Int; 8] },
 }
 
 impl NumberList {
+    // The set without a number.
+    pub const NONE: NumberList = NumberList::Numbers {
+        count: 0,
+        numbers: [0; 8],
+    };
+
+    // Whether the set is that of all INTs.
+    fn is_everything(&self) -> bool
+        ensures { result ≡ is_everything self.now }
+    {
+        matches!(self, NumberList::Everything)
+    }
+
     // The numbers of a record that lists them in form, else none.
-    fn listed(&self) -> &[Int]
+    pub fn listed(&self) -> &[Int]
         ensures { result.now ≡ listed self.now }
     {
-        let count = self.count as usize;
-        if !self.everything && count <= 8 && ascends(&self.numbers[..count]) {
-            &self.numbers[..count]
-        } else {
-            &self.numbers[..0]
+        match self {
+            NumberList::Numbers { count, numbers }
+                if *count <= 8 && ascends(&numbers[..*count as usize]) =>
+                &numbers[..*count as usize],
+            _ => &[],
         }
     }
 
@@ -63,32 +53,23 @@ impl NumberList {
     fn put(self, n: Int) -> NumberList
         ensures { result ≡ put_in self n }
     {
-        let count = self.count as usize;
-        if self.everything || count > 8 {
-            return all();
+        let NumberList::Numbers { count, numbers } = self else {
+            return NumberList::Everything;
+        };
+        if count > 8 {
+            return NumberList::Everything;
         }
-        let numbers = &self.numbers[..count];
-        let place = place_of(numbers, n);
-        if stands_at(numbers, place, n) {
+        let listed = &numbers[..count as usize];
+        let place = place_of(listed, n);
+        if stands_at(listed, place, n) {
             return self;
         }
         if count == 8 {
-            return all();
+            return NumberList::Everything;
         }
-        NumberList {
-            everything: false,
-            count: self.count + 1,
-            numbers: shifted(self.numbers, place, n),
-        }
-    }
-
-    // The set with `n` put in, if there is one.
-    fn put_if(self, n: Option<Int>) -> NumberList
-        ensures { result ≡ fold put_in self (if_any n) }
-    {
-        match n {
-            Some(n) => self.put(n),
-            None => self,
+        NumberList::Numbers {
+            count: count + 1,
+            numbers: shifted(numbers, place, n),
         }
     }
 
@@ -96,27 +77,37 @@ impl NumberList {
     fn put_all(self, numbers: &[Int]) -> NumberList
         ensures { result ≡ fold put_in self numbers.now }
     {
-        let mut set = self;
-        for n in numbers {
-            set = set.put(*n);
-        }
-        set
+        numbers.iter().fold(self, |set, n| set.put(*n))
     }
 
     // The set with the results of `a` and each of the numbers put in.
-    fn put_row(self, operation: Operation, a: Int, numbers: &[Int]) -> NumberList
-        ensures { result ≡ fold put_in self (row (result_of operation) a numbers.now) }
+    fn put_row<F: Fn(Int, Int) -> Option<Int> + Copy>(
+        self,
+        operation: F,
+        a: Int,
+        numbers: &[Int],
+    ) -> NumberList
+        requires { F.IsAlwaysCallable operation }
+        ensures { (op : ℤ → ℤ → Option ℤ) → Computes F.Fn op operation → result ≡ fold put_in self (row op a numbers.now) }
     {
         let mut set = self;
         for b in numbers {
-            set = set.put_if(operation.result(a, *b));
+            if let Some(n) = operation(a, *b) {
+                set = set.put(n);
+            }
         }
         set
     }
 
     // The set with the results of all pairs put in.
-    fn put_pairs(self, operation: Operation, xs: &[Int], ys: &[Int]) -> NumberList
-        ensures { result ≡ fold put_in self (pairs (result_of operation) xs.now ys.now) }
+    fn put_pairs<F: Fn(Int, Int) -> Option<Int> + Copy>(
+        self,
+        operation: F,
+        xs: &[Int],
+        ys: &[Int],
+    ) -> NumberList
+        requires { F.IsAlwaysCallable operation }
+        ensures { (op : ℤ → ℤ → Option ℤ) → Computes F.Fn op operation → result ≡ fold put_in self (pairs op xs.now ys.now) }
     {
         let mut set = self;
         for a in xs {
@@ -127,11 +118,13 @@ impl NumberList {
 }
 
 // Whether `a` passes the test with some of the numbers.
-fn some_in(test: Test, a: Int, numbers: &[Int]) -> bool
-    ensures { result ≡ some_with (passes test) a numbers.now }
+fn some_in<F: Fn(Int, Int) -> bool + Copy>(test: F, a: Int, numbers: &[Int]) -> bool
+    requires { F.IsAlwaysCallable test }
+    ensures { (t : ℤ → ℤ → Bool) → Computes F.Fn t test → result ≡ some_with t a numbers.now }
 {
+    // Not `any`: its contract says nothing of the range of the items, which `Computes` asks for, and the proof stayed open.
     for b in numbers {
-        if test.passes(a, *b) {
+        if test(a, *b) {
             return true;
         }
     }
@@ -139,9 +132,11 @@ fn some_in(test: Test, a: Int, numbers: &[Int]) -> bool
 }
 
 // Whether some pair passes the test.
-fn some_pair(test: Test, xs: &[Int], ys: &[Int]) -> bool
-    ensures { result ≡ some_pair (passes test) xs.now ys.now }
+fn some_pair<F: Fn(Int, Int) -> bool + Copy>(test: F, xs: &[Int], ys: &[Int]) -> bool
+    requires { F.IsAlwaysCallable test }
+    ensures { (t : ℤ → ℤ → Bool) → Computes F.Fn t test → result ≡ some_pair t xs.now ys.now }
 {
+    // Not `any`, as in `some_in`.
     for a in xs {
         if some_in(test, *a, ys) {
             return true;
@@ -168,51 +163,62 @@ fn count_up(set: NumberList, places: u8, low: Int, high: Int) -> NumberList
 fn union(xs: &[Int], ys: &[Int]) -> NumberList
     ensures { result ≡ smallest (xs.now ++ ys.now) }
 {
-    none().put_all(xs).put_all(ys)
+    NumberList::NONE.put_all(xs).put_all(ys)
 }
 
 // The smallest set over the results of all pairs.
-fn all_results(operation: Operation, xs: &[Int], ys: &[Int]) -> NumberList
-    ensures { result ≡ smallest (pairs (result_of operation) xs.now ys.now) }
+fn all_results<F: Fn(Int, Int) -> Option<Int> + Copy>(
+    operation: F,
+    xs: &[Int],
+    ys: &[Int],
+) -> NumberList
+    requires { F.IsAlwaysCallable operation }
+    ensures { (op : ℤ → ℤ → Option ℤ) → Computes F.Fn op operation → result ≡ smallest (pairs op xs.now ys.now) }
 {
-    none().put_pairs(operation, xs, ys)
+    NumberList::NONE.put_pairs(operation, xs, ys)
 }
 
 // Whether the record lists no number.
 fn lists_none(x: &NumberList) -> bool
     ensures { result ≡ is_empty x.now }
 {
-    !x.everything && x.listed().is_empty()
+    !x.is_everything() && x.listed().is_empty()
 }
 
 // Whether every number of `x` is in `y`.
 fn lies_within(x: &NumberList, y: &NumberList) -> bool
     ensures { result ≡ is_within x.now y.now }
 {
-    y.everything || !x.everything && has_all(y.listed(), x.listed())
+    y.is_everything() || !x.is_everything() && has_all(y.listed(), x.listed())
 }
 
 // The results of an operation.
-fn results(operation: Operation, x: NumberList, y: NumberList) -> NumberList
-    ensures { result ≡ results operation x y }
+fn results<F: Fn(Int, Int) -> Option<Int> + Copy>(
+    operation: F,
+    x: NumberList,
+    y: NumberList,
+) -> NumberList
+    requires { F.IsAlwaysCallable operation }
+    ensures { (op : ℤ → ℤ → Option ℤ) → Computes F.Fn op operation → result ≡ results op x y }
 {
     if lists_none(&x) || lists_none(&y) {
-        return none();
+        return NumberList::NONE;
     }
-    if x.everything || y.everything {
-        return all();
+    if x.is_everything() || y.is_everything() {
+        return NumberList::Everything;
     }
     all_results(operation, x.listed(), y.listed())
 }
 
 // Whether some pair passes a test.
-fn some(test: Test, x: NumberList, y: NumberList) -> bool
-    ensures { result ≡ some test x y }
+fn some<F: Fn(Int, Int) -> bool + Copy>(test: F, x: NumberList, y: NumberList) -> bool
+    requires { F.IsAlwaysCallable test }
+    ensures { (t : ℤ → ℤ → Bool) → Computes F.Fn t test → result ≡ some t x y }
 {
     if lists_none(&x) || lists_none(&y) {
         return false;
     }
-    if x.everything || y.everything {
+    if x.is_everything() || y.is_everything() {
         return true;
     }
     some_pair(test, x.listed(), y.listed())
@@ -222,7 +228,7 @@ fn some(test: Test, x: NumberList, y: NumberList) -> bool
 fn spanned(low: Int, high: Int) -> NumberList
     ensures { result ≡ smallest (counted 8 low high) }
 {
-    count_up(none(), 8, low, high)
+    count_up(NumberList::NONE, 8, low, high)
 }
 
 impl Domain for NumberList {
@@ -232,13 +238,13 @@ impl Domain for NumberList {
 
     fn span(low: Int, high: Int) -> NumberList {
         if low as i32 + 7 < high as i32 {
-            return all();
+            return NumberList::Everything;
         }
         spanned(low, high)
     }
 
     fn contains(self, n: Int) -> bool {
-        self.everything || has(self.listed(), n)
+        self.is_everything() || self.listed().contains(&n)
     }
 
     fn within(self, other: NumberList) -> bool {
@@ -250,50 +256,50 @@ impl Domain for NumberList {
     }
 
     fn add(self, other: NumberList) -> NumberList {
-        results(Operation::Add, self, other)
+        results(sum, self, other)
     }
 
     fn sub(self, other: NumberList) -> NumberList {
-        results(Operation::Sub, self, other)
+        results(difference, self, other)
     }
 
     fn mul(self, other: NumberList) -> NumberList {
-        results(Operation::Mul, self, other)
+        results(product, self, other)
     }
 
     fn div(self, other: NumberList) -> NumberList {
-        results(Operation::Div, self, other)
+        results(quotient, self, other)
     }
 
     fn add_overflows(self, other: NumberList) -> bool {
-        some(Test::SumLeaves, self, other)
+        some(|a, b| sum(a, b).is_none(), self, other)
     }
 
     fn sub_overflows(self, other: NumberList) -> bool {
-        some(Test::DifferenceLeaves, self, other)
+        some(|a, b| difference(a, b).is_none(), self, other)
     }
 
     fn mul_overflows(self, other: NumberList) -> bool {
-        some(Test::ProductLeaves, self, other)
+        some(|a, b| product(a, b).is_none(), self, other)
     }
 
     fn less(self, other: NumberList) -> Truth {
         Truth {
-            can_be_true: some(Test::Less, self, other),
-            can_be_false: some(Test::NotLess, self, other),
+            can_be_true: some(|a, b| a < b, self, other),
+            can_be_false: some(|a, b| a >= b, self, other),
         }
     }
 
     fn equal(self, other: NumberList) -> Truth {
         Truth {
-            can_be_true: some(Test::Equal, self, other),
-            can_be_false: some(Test::Differ, self, other),
+            can_be_true: some(|a, b| a == b, self, other),
+            can_be_false: some(|a, b| a != b, self, other),
         }
     }
 
     fn join(self, other: NumberList) -> NumberList {
-        if self.everything || other.everything {
-            return all();
+        if self.is_everything() || other.is_everything() {
+            return NumberList::Everything;
         }
         union(self.listed(), other.listed())
     }
@@ -302,6 +308,6 @@ impl Domain for NumberList {
         if self.is_empty() || joined.within(self) {
             return joined;
         }
-        all()
+        NumberList::Everything
     }
 }

@@ -1,7 +1,7 @@
 // Numbers in a slice.
 ghost use Rattle.std.specs.Prelude.{◌≡◌, ◌<◌, ◌≤◌, length};
 ghost use Rattle.list.specs.Insertion.{place, stands_at, shifted_in};
-ghost use Rattle.list.specs.Numbers.{member, all_in, ascending};
+ghost use Rattle.list.specs.Numbers.{all_in, ascending};
 
 use numbers::Int;
 
@@ -9,36 +9,14 @@ use numbers::Int;
 pub(crate) fn ascends(numbers: &[Int]) -> bool
     ensures { result ≡ ascending numbers.now }
 {
-    for i in 1..numbers.len() {
-        if numbers[i] <= numbers[i - 1] {
-            return false;
-        }
-    }
-    true
-}
-
-// Whether `n` is among the numbers.
-pub(crate) fn has(numbers: &[Int], n: Int) -> bool
-    ensures { result ≡ member n numbers.now }
-{
-    for x in numbers {
-        if *x == n {
-            return true;
-        }
-    }
-    false
+    numbers.is_sorted_by(|a, b| a < b)
 }
 
 // Whether every number is among the others.
 pub(crate) fn has_all(others: &[Int], numbers: &[Int]) -> bool
     ensures { result ≡ all_in numbers.now others.now }
 {
-    for n in numbers {
-        if !has(others, *n) {
-            return false;
-        }
-    }
-    true
+    numbers.iter().all(|n| others.contains(n))
 }
 
 // How many numbers stand at the front that are below `n`.
@@ -46,19 +24,14 @@ pub(crate) fn place_of(numbers: &[Int], n: Int) -> usize
     ensures is { result ≡ place numbers.now n }
     ensures bound { result ≤ length numbers.now }
 {
-    for (i, x) in numbers.iter().enumerate() {
-        if *x >= n {
-            return i;
-        }
-    }
-    numbers.len()
+    numbers.iter().take_while(|x| **x < n).count()
 }
 
 // Whether `n` stands at the place `at`.
 pub(crate) fn stands_at(numbers: &[Int], at: usize, n: Int) -> bool
     ensures { result ≡ stands_at numbers.now at n }
 {
-    at < numbers.len() && numbers[at] == n
+    numbers.get(at) == Some(&n)
 }
 
 // `n` put in at the place `at`, the numbers behind it one place on, without the last.

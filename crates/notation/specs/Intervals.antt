@@ -21,7 +21,7 @@ read_interval bytes = cond (nat_lt (before_stop bytes + 1) (length bytes) && sli
 
 -- two numbers with two full stops between them
 abbrev pub ends_text : ℤ → ℤ → List ℕ
-ends_text low high = (signed_decimal low ++ codes "..") ++ signed_decimal high
+ends_text low high = signed_decimal low ++ (codes ".." ++ signed_decimal high)
 
 -- the text of an interval; nothing where its low is above its high
 abbrev pub interval_text : Interval → List ℕ

@@ -3,7 +3,7 @@ ghost use Rattle.std.specs.Prelude.{◌≡◌, IfOk, string_bytes, OnOk};
 ghost use Rattle.notation.specs.Cells.{line_head, with_cell, sheet_line};
 
 use crate::Notation;
-use crate::cell::{cell_text, shown_if};
+use crate::cell::cell_text;
 use cells::cell::Cell;
 use std::alloc::{AllocError, Global};
 use transfer::marks::Marks;
@@ -12,10 +12,10 @@ fn line_head(heap: Global, number: usize, marks: Marks) -> Result<String, AllocE
     ensures { IfOk result (λ s. string_bytes s ≡ line_head number marks) }
 {
     let mut out = format!(in heap; "{number} ")?;
-    out.push_str(shown_if(marks.overflow, "O", "-"))?;
-    out.push_str(shown_if(marks.zero_divisor, "Z", "-"))?;
-    out.push_str(shown_if(marks.kind, "K", "-"))?;
-    out.push_str(shown_if(marks.unreachable, "N", "-"))?;
+    out.push_str(if marks.overflow { "O" } else { "-" })?;
+    out.push_str(if marks.zero_divisor { "Z" } else { "-" })?;
+    out.push_str(if marks.kind { "K" } else { "-" })?;
+    out.push_str(if marks.unreachable { "N" } else { "-" })?;
     Ok(out)
 }
 

@@ -2,34 +2,30 @@ use Rattle.std.proofs.Common.{◌≡◌, true, false, List, get_or, ℤ, pos, sy
 use Rattle.std.proofs.lemmas.List.{at_drop_all}
 use Rattle.std.proofs.lemmas.Int.{to_z-of_z}
 use Rattle.list.specs.Numbers.{some_with}
-use Rattle.list.specs.Operations.{passes}
 use Rattle.list.specs.Loops.{passed, or_step}
 use Rattle.list.proofs.some_in.Goals as goal
 
 pub loop-b-preserved : goal.loop-b-preserved
-loop-b-preserved c =
+loop-b-preserved g c t is =
     let ns : List ℤ = c.args.numbers.now in
     let i = c.loop-b.b-index in
-    let test = passes c.args.test in
     let a = passed c.args.a in
     let fits : SFits w16 (get_or ns i (pos 0)) = search rules in
-    let no : test a (get_or ns i (pos 0)) ≡ false = ap (test a) (sym (to_z-of_z w16 _ fits)) ∙ sym c.passes.ensures ∙ c.if-passes.false in
-    or_step (some_with test a) (test a) (λ _ _. refl) ns i false c.loop-b-test.true no c.loop-b.invariant
+    let no : t a (get_or ns i (pos 0)) ≡ false = ap (t a) (sym (to_z-of_z w16 _ fits)) ∙ sym (is _ _ (search rules) (search rules) _ c.test.ensures) ∙ c.if-test.false in
+    or_step (some_with t a) (t a) (λ _ _. refl) ns i false c.loop-b-test.true no (c.loop-b.invariant t is)
 
-pub returns-then-passes : goal.returns-then-passes
-returns-then-passes c =
+pub returns-then-test : goal.returns-then-test
+returns-then-test g c t is =
     let ns : List ℤ = c.args.numbers.now in
     let i = c.loop-b.b-index in
-    let test = passes c.args.test in
     let a = passed c.args.a in
     let fits : SFits w16 (get_or ns i (pos 0)) = search rules in
     let whole : SFits w16 c.args.a = search rules in
-    let yes : test a (get_or ns i (pos 0)) ≡ true = ap (test a) (sym (to_z-of_z w16 _ fits)) ∙ sym c.passes.ensures ∙ c.if-passes.true in
-    or_step (some_with test a) (test a) (λ _ _. refl) ns i true c.loop-b-test.true yes c.loop-b.invariant ∙ ap (λ z. some_with test z ns) (to_z-of_z w16 _ whole)
+    let yes : t a (get_or ns i (pos 0)) ≡ true = ap (t a) (sym (to_z-of_z w16 _ fits)) ∙ sym (is _ _ (search rules) (search rules) _ c.test.ensures) ∙ c.if-test.true in
+    or_step (some_with t a) (t a) (λ _ _. refl) ns i true c.loop-b-test.true yes (c.loop-b.invariant t is) ∙ ap (λ z. some_with t z ns) (to_z-of_z w16 _ whole)
 
 pub returns : goal.returns
-returns c =
+returns g c t is =
     let ns : List ℤ = c.args.numbers.now in
-    let test = passes c.args.test in
     let whole : SFits w16 c.args.a = search rules in
-    sym (at_drop_all (some_with test (passed c.args.a)) ns c.loop-b.b-index c.loop-b-test.false) ∙ c.loop-b.invariant ∙ ap (λ z. some_with test z ns) (to_z-of_z w16 _ whole)
+    sym (at_drop_all (some_with t (passed c.args.a)) ns c.loop-b.b-index c.loop-b-test.false) ∙ c.loop-b.invariant t is ∙ ap (λ z. some_with t z ns) (to_z-of_z w16 _ whole)

@@ -14,7 +14,6 @@ returns c =
     let low : SFits w16 a = search rules in
     let high : SFits w16 b = search rules in
     c.count_up.ensures
-    ∙ ap (λ s. fold put_in s (counted 8 (passed a) (passed b))) c.none.ensures
     ∙ ap (λ z. fold put_in (packed []) (counted 8 z (passed b))) (to_z-of_z w16 a low)
     ∙ ap (λ z. fold put_in (packed []) (counted 8 a z)) (to_z-of_z w16 b high)
     ∙ put-many [] (counted 8 a b)

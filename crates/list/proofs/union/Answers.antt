@@ -8,4 +8,4 @@ pub returns : goal.returns
 returns c =
     let xs : List ℤ = c.args.xs.now in
     let ys : List ℤ = c.args.ys.now in
-    c.put_all-2.ensures ∙ ap (λ s. fold put_in s ys) (c.put_all.ensures ∙ ap (λ s. fold put_in s xs) c.none.ensures) ∙ sym (folded-append put_in _ xs ys) ∙ put-many [] (xs ++ ys)
+    c.put_all-2.ensures ∙ ap (λ s. fold put_in s ys) c.put_all.ensures ∙ sym (folded-append put_in _ xs ys) ∙ put-many [] (xs ++ ys)

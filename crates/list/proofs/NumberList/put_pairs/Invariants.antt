@@ -1,8 +1,8 @@
-use Rattle.std.proofs.Common.{◌≡◌, drop, fold}
+use Rattle.std.proofs.Common.{◌≡◌, drop, ℤ, fold, Option}
 use Rattle.list.specs.Insertion.{put_in}
 use Rattle.list.specs.Numbers.{pairs}
-use Rattle.list.specs.Operations.{result_of}
+use Rattle.list.specs.Operations.{Computes}
 use Rattle.list.proofs.NumberList.put_pairs.Given as goal
 
 abbrev pub invariant-loop-a : goal.invariant-loop-a
-invariant-loop-a l = fold put_in l.set (pairs (result_of l.operation) (drop l.a-index l.xs) l.ys) ≡ fold put_in l.initial.set (pairs (result_of l.operation) l.xs l.ys)
+invariant-loop-a g l = (op : ℤ → ℤ → Option ℤ) → Computes g.F.Fn op l.operation → fold put_in l.set (pairs op (drop l.a-index l.xs) l.ys) ≡ fold put_in l.initial.set (pairs op l.xs l.ys)
