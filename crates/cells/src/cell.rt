@@ -28,10 +28,9 @@ impl<D: Domain> Cell<D> {
         ensures { result ≡ either_truth D.ops }
     {
         Cell {
-            unset: false,
             can_be_false: true,
             can_be_true: true,
-            numbers: D::span(1, 0),
+            ..Cell::nothing()
         }
     }
 
@@ -47,22 +46,19 @@ impl<D: Domain> Cell<D> {
         }
     }
 
-    // The cell that allows one value.
+    // The cell that allows one value; by name and no `From`, as the other cells are made by name.
     pub fn of_value(value: Value) -> Cell<D>
         ensures { result ≡ of_value D.ops value }
     {
         match value {
             Value::Unset => Cell {
                 unset: true,
-                can_be_false: false,
-                can_be_true: false,
-                numbers: D::span(1, 0),
+                ..Cell::nothing()
             },
             Value::Bool(b) => Cell {
-                unset: false,
                 can_be_false: !b,
                 can_be_true: b,
-                numbers: D::span(1, 0),
+                ..Cell::nothing()
             },
             Value::Int(n) => Cell::of_range(n, n),
         }
@@ -74,13 +70,8 @@ impl<D: Domain> Cell<D> {
     {
         match value {
             Value::Unset => self.unset,
-            Value::Bool(b) => {
-                if b {
-                    self.can_be_true
-                } else {
-                    self.can_be_false
-                }
-            }
+            Value::Bool(false) => self.can_be_false,
+            Value::Bool(true) => self.can_be_true,
             Value::Int(n) => self.numbers.contains(n),
         }
     }
@@ -89,10 +80,10 @@ impl<D: Domain> Cell<D> {
     pub fn within(self, other: Cell<D>) -> bool
         ensures { result ≡ cell_within D.ops self other }
     {
-        (!self.unset | other.unset)
-            & (!self.can_be_false | other.can_be_false)
-            & (!self.can_be_true | other.can_be_true)
-            & self.numbers.within(other.numbers)
+        (!self.unset || other.unset)
+            && (!self.can_be_false || other.can_be_false)
+            && (!self.can_be_true || other.can_be_true)
+            && self.numbers.within(other.numbers)
     }
 
     // The least cell that both are within.
@@ -100,9 +91,9 @@ impl<D: Domain> Cell<D> {
         ensures { result ≡ joined D.ops self other }
     {
         Cell {
-            unset: self.unset | other.unset,
-            can_be_false: self.can_be_false | other.can_be_false,
-            can_be_true: self.can_be_true | other.can_be_true,
+            unset: self.unset || other.unset,
+            can_be_false: self.can_be_false || other.can_be_false,
+            can_be_true: self.can_be_true || other.can_be_true,
             numbers: self.numbers.join(other.numbers),
         }
     }
@@ -111,11 +102,10 @@ impl<D: Domain> Cell<D> {
     pub fn widen(self, other: Cell<D>) -> Cell<D>
         ensures { result ≡ widened D.ops self other }
     {
+        let joined = self.join(other);
         Cell {
-            unset: self.unset | other.unset,
-            can_be_false: self.can_be_false | other.can_be_false,
-            can_be_true: self.can_be_true | other.can_be_true,
-            numbers: self.numbers.widen(self.numbers.join(other.numbers)),
+            numbers: self.numbers.widen(joined.numbers),
+            ..joined
         }
     }
 
@@ -123,7 +113,7 @@ impl<D: Domain> Cell<D> {
     pub fn is_vacant(self) -> bool
         ensures { result ≡ is_vacant D.ops self }
     {
-        !self.unset & !self.can_be_false & !self.can_be_true & self.numbers.is_empty()
+        !self.unset && !self.can_be_false && !self.can_be_true && self.numbers.is_empty()
     }
 
     // Whether a value of the sort may be allowed.
@@ -132,7 +122,7 @@ impl<D: Domain> Cell<D> {
     {
         match sort {
             Sort::Unset => self.unset,
-            Sort::Bool => self.can_be_false | self.can_be_true,
+            Sort::Bool => self.can_be_false || self.can_be_true,
             Sort::Int => !self.numbers.is_empty(),
         }
     }
@@ -142,9 +132,9 @@ impl<D: Domain> Cell<D> {
         ensures { result ≡ only D.ops self unset truths numbers }
     {
         Cell {
-            unset: self.unset & unset,
-            can_be_false: self.can_be_false & truths,
-            can_be_true: self.can_be_true & truths,
+            unset: self.unset && unset,
+            can_be_false: self.can_be_false && truths,
+            can_be_true: self.can_be_true && truths,
             numbers: if numbers { self.numbers } else { D::span(1, 0) },
         }
     }

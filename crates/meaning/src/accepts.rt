@@ -1,36 +1,24 @@
 // Which sorts of values each operation accepts.
 ghost use Rattle.std.specs.Prelude.{◌≡◌};
-ghost use Rattle.meaning.specs.Meaning.{is_bool, is_number, accepts_operator, accepts_store, accepts_jump, accepted};
+ghost use Rattle.meaning.specs.Meaning.{accepts_operator, accepts_store, accepts_jump, accepted};
 
 use cells::value::Sort;
 use syntax::operator::{Jump, Operator, Store};
 use syntax::record::Operation;
-
-fn is_bool(sort: Sort) -> bool
-    ensures { result ≡ is_bool sort }
-{
-    sort == Sort::Bool
-}
-
-fn is_number(sort: Sort) -> bool
-    ensures { result ≡ is_number sort }
-{
-    sort == Sort::Int
-}
 
 fn accepts_operator(operator: Operator, left: Sort, right: Sort) -> bool
     ensures { result ≡ accepts_operator operator left right }
 {
     match operator {
         Operator::Ld => true,
-        Operator::Ldn => is_bool(right),
+        Operator::Ldn => right == Sort::Bool,
         Operator::And
         | Operator::Andn
         | Operator::Or
         | Operator::Orn
         | Operator::Xor
-        | Operator::Xorn => { is_bool(left) & is_bool(right) }
-        _ => is_number(left) & is_number(right),
+        | Operator::Xorn => { left == Sort::Bool && right == Sort::Bool }
+        _ => left == Sort::Int && right == Sort::Int,
     }
 }
 
@@ -38,8 +26,8 @@ fn accepts_store(store: Store, left: Sort, right: Sort) -> bool
     ensures { result ≡ accepts_store store left right }
 {
     match store {
-        Store::St => (is_bool(left) & is_bool(right)) | (is_number(left) & is_number(right)),
-        _ => is_bool(left) & is_bool(right),
+        Store::St => left == right && left != Sort::Unset,
+        _ => left == Sort::Bool && right == Sort::Bool,
     }
 }
 
@@ -48,7 +36,7 @@ fn accepts_jump(jump: Jump, left: Sort) -> bool
 {
     match jump {
         Jump::Jmp => true,
-        _ => is_bool(left),
+        _ => left == Sort::Bool,
     }
 }
 
@@ -57,9 +45,8 @@ pub fn accepts(operation: Operation, left: Sort, right: Sort) -> bool
     ensures { result ≡ accepted operation left right }
 {
     match operation {
-        Operation::Return => true,
-        Operation::Not => is_bool(left),
-        Operation::Label(_) => true,
+        Operation::Return | Operation::Label(_) => true,
+        Operation::Not => left == Sort::Bool,
         Operation::Apply(operator, _) => accepts_operator(operator, left, right),
         Operation::Store(store, _) => accepts_store(store, left, right),
         Operation::Jump(jump, _) => accepts_jump(jump, left),

@@ -1,10 +1,12 @@
 // The value that an operator gives, or why it stops.
-ghost use Rattle.std.specs.Prelude.{◌≡◌};
-ghost use Rattle.meaning.specs.Meaning.{truth_of, number_of, opposite, sized, quotient, arithmetic, compared, computed};
+ghost use Rattle.std.specs.Prelude.{◌≡◌, MatchOption};
+ghost use Rattle.cells.specs.declared.value.Value.TheVariants.{Int};
+ghost use Rattle.meaning.specs.declared.compute.Cause.TheVariants.{Overflow};
+ghost use Rattle.meaning.specs.Meaning.{truth_of, number_of, opposite, quotient, arithmetic, compared, computed};
 
 use crate::truths::combine;
 use cells::value::Value;
-use numbers::{Int, fit};
+use numbers::Int;
 use syntax::operator::Operator;
 
 // Why a statement stops.
@@ -22,10 +24,7 @@ pub enum Cause {
 pub fn truth(value: Value) -> bool
     ensures { result ≡ truth_of value }
 {
-    match value {
-        Value::Bool(b) => b,
-        _ => false,
-    }
+    matches!(value, Value::Bool(true))
 }
 
 // The number that an INT holds; 0 for any other value.
@@ -46,13 +45,10 @@ pub fn negate(value: Value) -> Value
 }
 
 // A result, where it lies inside INT.
-fn size(res: i32) -> Result<Value, Cause>
-    ensures { result ≡ sized res }
+fn size(res: Option<Int>) -> Result<Value, Cause>
+    ensures { MatchOption res (result ≡ Err Overflow) (λ n. result ≡ Ok (Int n)) }
 {
-    match fit(res) {
-        Some(n) => Ok(Value::Int(n)),
-        None => Err(Cause::Overflow),
-    }
+    res.map(Value::Int).ok_or(Cause::Overflow)
 }
 
 // A quotient, without its fraction.
@@ -62,7 +58,7 @@ fn divide(a: Int, b: Int) -> Result<Value, Cause>
     if b == 0 {
         Err(Cause::ZeroDivisor)
     } else {
-        size(a as i32 / b as i32)
+        size(a.checked_div(b))
     }
 }
 
@@ -71,9 +67,9 @@ fn calculate(operator: Operator, a: Int, b: Int) -> Result<Value, Cause>
     ensures { result ≡ arithmetic operator a b }
 {
     match operator {
-        Operator::Add => size(a as i32 + b as i32),
-        Operator::Sub => size(a as i32 - b as i32),
-        Operator::Mul => size(a as i32 * b as i32),
+        Operator::Add => size(a.checked_add(b)),
+        Operator::Sub => size(a.checked_sub(b)),
+        Operator::Mul => size(a.checked_mul(b)),
         _ => divide(a, b),
     }
 }
@@ -83,12 +79,12 @@ fn compare(operator: Operator, a: Int, b: Int) -> bool
     ensures { result ≡ compared operator a b }
 {
     match operator {
-        Operator::Gt => b < a,
-        Operator::Ge => !(a < b),
+        Operator::Gt => a > b,
+        Operator::Ge => a >= b,
         Operator::Lt => a < b,
-        Operator::Le => !(b < a),
+        Operator::Le => a <= b,
         Operator::Eq => a == b,
-        _ => !(a == b),
+        _ => a != b,
     }
 }
 

@@ -4,4 +4,5 @@
 pub mod accepts;
 pub mod compute;
 pub mod edge;
+pub mod source;
 pub mod truths;

@@ -9,12 +9,12 @@ pub fn combine(operator: Operator, left: bool, right: bool) -> bool
     ensures { result ≡ combined operator left right }
 {
     match operator {
-        Operator::And => left & right,
-        Operator::Andn => left & !right,
-        Operator::Or => left | right,
-        Operator::Orn => left | !right,
-        Operator::Xor => (left & !right) | (!left & right),
-        Operator::Xorn => (left & right) | (!left & !right),
+        Operator::And => left && right,
+        Operator::Andn => left && !right,
+        Operator::Or => left || right,
+        Operator::Orn => left || !right,
+        Operator::Xor => left != right,
+        Operator::Xorn => left == right,
         _ => false,
     }
 }
