@@ -63,7 +63,7 @@ module _ {S : Type 0} (o : Ops S) (vars : List Variable) (table : List (Cell S))
       ap (λ (n : ℕ). within o (get_or cells i (nothing o)) (get_or table n (nothing o))) at
       ∙ each_within (start + 1) cells (unless-none (within o c (get_or table start (nothing o))) (first_outside o vars table (start + 1) cells) start e).1 i (omega arith)
 
-  none-outside : (start : ℕ) (row : List (Cell S)) → Each start row → first_outside o vars table start row ≡ None
+  pub none-outside : (start : ℕ) (row : List (Cell S)) → Each start row → first_outside o vars table start row ≡ None
   none-outside start [] f = refl
   none-outside start (c ∷ cells) f =
       cond-true (within o c (get_or table start (nothing o))) (first_outside o vars table (start + 1) cells) (Some start)

@@ -1,5 +1,7 @@
 -- One turn of each search for a place that fails.
-use Rattle.std.proofs.Common.{◌≡◌, ℕ, ◌+◌, ◌<◌, ◌≤◌, Bool as Truth, true, false, cond, List, length, get_or, drop, Some, None, Option, sym, ap, ◌∙◌, arith}
+use Rattle.std.proofs.Common.{◌≡◌, ℕ, zero, suc, ◌+◌, ◌<◌, ◌≤◌, Bool as Truth, true, false, List, [], ◌∷◌, length, get_or, drop, Some, None, Option, sym, ap, ◌∙◌, add-zero, arith}
+use Rattle.std.proofs.lemmas.Bool.{cond-true, cond-false}
+use Rattle.std.specs.Option.{MatchOption}
 use Rattle.std.proofs.lemmas.List.{at_drop_more, at_drop_all}
 use Rattle.domain.specs.Domain.{Ops}
 use Rattle.syntax.specs.declared.record.Statement.{Statement}
@@ -9,27 +11,35 @@ use Rattle.cells.specs.declared.cell.Cell.{Cell}
 use Rattle.cells.specs.Cells.{nothing, within}
 use Rattle.table.specs.Tables.{operation_at}
 use Rattle.table_check.specs.Failures.{or_else, first_outside, fails_from, fails_among}
+use Rattle.table_check.proofs.Passing.{none-outside}
 
 module _ {S : Type 0} (o : Ops S) (vars : List Variable) (table : List (Cell S)) where
-  module _ (start i : ℕ) (row : List (Cell S)) (c t : Cell S) (h : i < length row) (ec : c ≡ get_or row i (nothing o)) (et : t ≡ get_or table (start + i) (nothing o)) where
-    turn : first_outside o vars table (start + i) (drop i row) ≡ cond (within o c t) (first_outside o vars table ((start + i) + 1) (drop (i + 1) row)) (Some (start + i))
-    turn =
-        at_drop_more (first_outside o vars table (start + i)) row i (nothing o) h
-        ∙ ap (λ (x : Cell S). cond (within o x (get_or table (start + i) (nothing o))) (first_outside o vars table ((start + i) + 1) (drop (i + 1) row)) (Some (start + i))) (sym ec)
-        ∙ ap (λ (x : Cell S). cond (within o c x) (first_outside o vars table ((start + i) + 1) (drop (i + 1) row)) (Some (start + i))) (sym et)
+  abbrev Within : ℕ → List (Cell S) → ℕ → Truth
+  Within start row i = within o (get_or row i (nothing o)) (get_or table (start + i) (nothing o))
 
-    pub outside-here : within o c t ≡ false → first_outside o vars table (start + i) (drop i row) ≡ Some (start + i)
-    outside-here e = turn ∙ ap (λ (b : Truth). cond b (first_outside o vars table ((start + i) + 1) (drop (i + 1) row)) (Some (start + i))) e
+  outside-at : (start i : ℕ) (row : List (Cell S)) → i < length row → Within start row i ≡ false → ((k : ℕ) → k < i → Within start row k ≡ true) → first_outside o vars table start row ≡ Some (start + i)
+  outside-at start i [] h out before = absurd (omega arith)
+  outside-at start zero (c ∷ cells) h out before =
+      cond-false (within o c (get_or table start (nothing o))) (first_outside o vars table (start + 1) cells) (Some start)
+      (ap (λ (n : ℕ). within o c (get_or table n (nothing o))) (sym (add-zero start)) ∙ out)
+      ∙ ap (λ (n : ℕ). Some n) (sym (add-zero start))
+  outside-at start (suc i) (c ∷ cells) h out before =
+      let at : start + suc i ≡ (start + 1) + i = omega arith in
+      cond-true (within o c (get_or table start (nothing o))) (first_outside o vars table (start + 1) cells) (Some start)
+      (ap (λ (n : ℕ). within o c (get_or table n (nothing o))) (sym (add-zero start)) ∙ before 0 (omega arith))
+      ∙ outside-at (start + 1) i cells (omega arith)
+      (ap (λ (n : ℕ). within o (get_or cells i (nothing o)) (get_or table n (nothing o))) (sym at) ∙ out)
+      (λ k less.
+      let next : (start + 1) + k ≡ start + suc k = omega arith in
+      ap (λ (n : ℕ). within o (get_or cells k (nothing o)) (get_or table n (nothing o))) next ∙ before (suc k) (omega arith))
+      ∙ ap (λ (n : ℕ). Some n) (sym at)
 
-    pub outside-further : within o c t ≡ true → first_outside o vars table (start + i) (drop i row) ≡ first_outside o vars table (start + (i + 1)) (drop (i + 1) row)
-    outside-further e =
-        let at : (start + i) + 1 ≡ start + (i + 1) = omega arith in
-        turn
-        ∙ ap (λ (b : Truth). cond b (first_outside o vars table ((start + i) + 1) (drop (i + 1) row)) (Some (start + i))) e
-        ∙ ap (λ (n : ℕ). first_outside o vars table n (drop (i + 1) row)) at
-
-  pub outside-nowhere : (start i : ℕ) (row : List (Cell S)) → length row ≤ i → first_outside o vars table start (drop i row) ≡ None
-  outside-nowhere start i row h = at_drop_all (first_outside o vars table start) row i h
+  -- the first of a row's cells that is not taken in, as a search for its index finds it
+  pub outside-found : (start n : ℕ) (row : List (Cell S)) (x y : Option ℕ) → length row ≡ n → MatchOption x ((k : ℕ) → 0 ≤ k → k < n → Within start row k ≡ true) (λ i. (0 ≤ i) × (i < n) × (Within start row i ≡ false) × ((k : ℕ) → 0 ≤ k → k < i → Within start row k ≡ true)) → MatchOption x (y ≡ None) (λ i. y ≡ Some (start + i)) → y ≡ first_outside o vars table start row
+  outside-found start n row (Some i) y long found is =
+      is ∙ sym (outside-at start i row (omega arith) found.2 (λ k less. found.3 k (omega arith) less))
+  outside-found start n row None y long found is =
+      is ∙ sym (none-outside o vars table start row (λ k less. found k (omega arith) (omega arith)))
 
   module _ (k : ℕ) (ss : List Statement) where
     pub among-more : (x : Option ℕ) → k < length ss → x ≡ fails_from o vars table k (operation_at ss k) → fails_among o vars table k (drop k ss) ≡ or_else x (fails_among o vars table (k + 1) (drop (k + 1) ss))

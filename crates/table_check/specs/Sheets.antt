@@ -22,9 +22,9 @@ pub record Shown (S : Type 0) : Type 0 where
 
 abbrev pub shown : {S : Type 0} → Sheet S → Shown S
 shown sheet = record {
-  cells = sheet.cells.now;
-  code = record { variables = sheet.variables.now; statements = sheet.statements.now };
-  cells_a_row = sheet.width;
+  cells = sheet.table.cells.now;
+  code = record { variables = sheet.table.variables.now; statements = sheet.table.statements.now };
+  cells_a_row = width sheet.table.variables.now;
 }
 
 -- an answer of the check, by what its sheet stands for

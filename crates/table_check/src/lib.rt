@@ -2,7 +2,9 @@
 #![tactic(auto)]
 
 pub mod fault;
+mod judged;
 mod marking;
 mod places;
+mod rows;
 pub mod sheet;
 mod starting;

@@ -6,8 +6,7 @@ ghost use Rattle.table_check.specs.Sheets.{shown_by, checked, marks_after};
 
 use super::Sheet;
 use crate::fault::CheckFault;
-use crate::marking::{clear_marks, write_marks};
-use crate::places::first_failure;
+use crate::judged::Judged;
 use cells::cell::Cell;
 use domain::Domain;
 use program::Program;
@@ -24,29 +23,24 @@ fn judge<'c, 'p, D: Domain>(
 {
     let variables = program.variables();
     let statements = program.statements();
-    let width = variables.len() + 1;
-    let size = statements.len() * width;
+    let size = statements.len() * (variables.len() + 1);
     if cells.len() != size {
         return Err(CheckFault::WrongSize(size));
     }
     if marks.len() != statements.len() {
         return Err(CheckFault::WrongSize(statements.len()));
     }
-    match first_failure(variables, statements, cells) {
-        Some(place) => {
-            clear_marks(marks);
-            Err(CheckFault::NotWithin(place))
-        }
-        None => {
-            write_marks(variables, statements, cells, marks);
-            Ok(Sheet {
-                cells,
-                variables,
-                statements,
-                width,
-            })
-        }
+    let table = Judged {
+        variables,
+        statements,
+        cells,
+    };
+    if let Some(place) = table.first_failure() {
+        marks.fill(Marks::NONE);
+        return Err(CheckFault::NotWithin(place));
     }
+    table.write_marks(marks);
+    Ok(Sheet { table })
 }
 
 // Judges a table by what it holds: hands out its sheet and writes its marks, or says which cell first fails and leaves no marks.

@@ -3,20 +3,20 @@ use Rattle.transfer.specs.declared.carry.Carried.{Carried}
 use Rattle.transfer.specs.Carrying.{row_of}
 use Rattle.table_check.specs.Failures.{fails_at}
 use Rattle.table_check.proofs.Lengths.{return-length, return-starts}
-use Rattle.table_check.proofs.places.fails_first.Goals as goal
+use Rattle.table_check.proofs.judged.Judged.fails_first.Goals as goal
 
 pub fails_at-requires : goal.fails_at-requires
 fails_at-requires g c =
     let o = g.D.Domain.ops in
-    let vars = c.args.variables.now in
+    let vars = c.args.self.now.variables.now in
     record {
       wide = ap (λ (x : Carried g.row.D.Denot). length (row_of o vars [] x)) c.starting.ensures ∙ return-length o vars [];
-      near = (omega arith, c.requires);
+      near = omega arith;
     }
 
 pub returns : goal.returns
 returns g c =
     let o = g.D.Domain.ops in
-    let vars = c.args.variables.now in
+    let vars = c.args.self.now.variables.now in
     let is = ap (λ (x : Carried g.row.D.Denot). row_of o vars [] x) c.starting.ensures ∙ return-starts o vars in
-    c.fails_at.ensures ∙ ap (fails_at o vars c.args.cells.now 0) is
+    c.fails_at.ensures ∙ ap (fails_at o vars c.args.self.now.cells.now 0) is
