@@ -2,17 +2,24 @@
 ghost use Rattle.std.specs.Prelude.{◌≡◌};
 ghost use Rattle.controller.specs.Faults.{number_of, place_of};
 
-#[derive(Clone, Copy, PartialEq, Eq, Debug)]
+use thiserror::Error;
+
+#[derive(Clone, Copy, PartialEq, Eq, Debug, Error)]
 pub enum CallFault {
     // cells or an output list not of the size that is wanted
+    #[error("{0} places are wanted")]
     WrongSize(usize),
     // a start or a reading at a statement where the controller does not wait
+    #[error("the controller does not wait, at statement {0}")]
     NotWaiting(usize),
     // a step at a statement where it does not run
+    #[error("the controller does not run, at statement {0}")]
     NotRunning(usize),
     // a step at a statement after the last that can be counted
+    #[error("no step more can be counted, at statement {0}")]
     StepsFull(usize),
     // not as many input numbers as there are inputs, or the first number outside its input's range
+    #[error("{0} numbers are wanted, or the one at position {0} is outside its input's range")]
     BadInput(usize),
 }
 

@@ -2,11 +2,15 @@
 ghost use Rattle.std.specs.Prelude.{◌≡◌};
 ghost use Rattle.fixpoint.specs.Faults.{number_of, place_of};
 
-#[derive(Clone, Copy, PartialEq, Eq, Debug)]
+use thiserror::Error;
+
+#[derive(Clone, Copy, PartialEq, Eq, Debug, Error)]
 pub enum SettleFault {
     // cells not of the size that is wanted
+    #[error("{0} places are wanted")]
     WrongSize(usize),
     // some cell still changed in the last of the sweeps that are allowed
+    #[error("it did not settle in {0} sweeps")]
     NotSettled(usize),
 }
 

@@ -4,16 +4,21 @@ ghost use Rattle.ranges.specs.declared.fault.RangesFault.TheVariants.{Word};
 ghost use Rattle.ranges.specs.Faults.{ranges_number, ranges_place, ranges_spot};
 
 use reading::fault::RangeFault;
+use thiserror::Error;
 use words::WordFault;
 
-#[derive(Clone, Copy)]
+#[derive(Clone, Copy, PartialEq, Eq, Debug, Error)]
 pub enum RangesFault {
     // more than 65,535 bytes
+    #[error("the text has more than 65535 bytes")]
     TooLong,
+    #[error("{0}")]
     Word(WordFault),
     // a word that does not fit, or the end of the text
+    #[error("this word, or the end of the text, does not fit here")]
     Misfit(usize),
     // a range that the program refuses, which begins at a place of the text
+    #[error("{0}")]
     Range(RangeFault, usize),
 }
 

@@ -5,32 +5,43 @@ ghost use Rattle.reading.specs.declared.fault.ProgramFault.TheVariants.{Statemen
 ghost use Rattle.reading.specs.Faults.{statement_number, statement_place, program_number, program_place, program_layer, range_number, range_place};
 
 use crate::fill::MOST_BYTES;
+use thiserror::Error;
 use words::WordFault;
 
 // A fault of the words, or of one statement or declaration.
-#[derive(Clone, Copy)]
+#[derive(Clone, Copy, PartialEq, Eq, Debug, Error)]
 pub enum StatementFault {
+    #[error("{0}")]
     Word(WordFault),
     // a word that does not fit, or the end of the text
+    #[error("this word, or the end of the text, does not fit here")]
     Misfit(usize),
     // an operand that is no variable
+    #[error("no variable has this name")]
     NoVariable(usize),
 }
 
 // A fault of a statement, or of the program as a whole.
-#[derive(Clone, Copy)]
+#[derive(Clone, Copy, PartialEq, Eq, Debug, Error)]
 pub enum ProgramFault {
+    #[error("{0}")]
     Statement(StatementFault),
     // more than 65,535 bytes
+    #[error("the text has more than 65535 bytes")]
     TooLong,
     // a name that is declared already
+    #[error("this name is declared already")]
     Redeclared(usize),
     // a variable, or a statement, beyond the places for them
+    #[error("there is no place for this variable")]
     VariablesFull(usize),
+    #[error("there is no place for this statement")]
     StatementsFull(usize),
     // no RET at the end
+    #[error("the last statement is not RET")]
     NoReturn(usize),
     // a jump to no label
+    #[error("no label has this name")]
     NoLabel(usize),
 }
 
@@ -43,9 +54,11 @@ pub enum Layer {
 }
 
 // A range for no INT input, or a low above the high; the place is the position.
-#[derive(Clone, Copy)]
+#[derive(Clone, Copy, PartialEq, Eq, Debug, Error)]
 pub enum RangeFault {
+    #[error("this range is for no INT input")]
     NoIntInput(usize),
+    #[error("this range has its low above its high")]
     LowAboveHigh(usize),
 }
 

@@ -2,11 +2,15 @@
 ghost use Rattle.std.specs.Prelude.{◌≡◌};
 ghost use Rattle.table_check.specs.Faults.{number_of, place_of};
 
-#[derive(Clone, Copy)]
+use thiserror::Error;
+
+#[derive(Clone, Copy, PartialEq, Eq, Debug, Error)]
 pub enum CheckFault {
     // cells or marks that are not of the size wanted
+    #[error("{0} places are wanted")]
     WrongSize(usize),
     // the place of the first cell that does not take in what is carried there
+    #[error("the cell at place {0} does not take in all that comes there")]
     NotWithin(usize),
 }
 

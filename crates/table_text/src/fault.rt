@@ -2,11 +2,15 @@
 ghost use Rattle.std.specs.Prelude.{◌≡◌};
 ghost use Rattle.table_text.specs.Faults.{table_number, table_place};
 
-#[derive(Clone, Copy)]
+use thiserror::Error;
+
+#[derive(Clone, Copy, PartialEq, Eq, Debug, Error)]
 pub enum TableFault {
     // more than 1,048,576 bytes
+    #[error("the text has more than 1048576 bytes")]
     TooLong,
     // a word that does not fit, or the end of the text
+    #[error("byte {0}: this word, or the end of the text, does not fit here")]
     Misfit(usize),
 }
 

@@ -2,6 +2,8 @@
 ghost use Rattle.std.specs.Prelude.{◌≡◌};
 ghost use Rattle.words.specs.Faults.{word_number, word_place};
 
+use thiserror::Error;
+
 // A word is a part of the text that it was read from.
 #[derive(Clone, Copy)]
 pub enum Word<'t> {
@@ -13,13 +15,16 @@ pub enum Word<'t> {
 }
 
 // Why a text has no next word; each case has the place.
-#[derive(Clone, Copy, PartialEq, Eq, Debug)]
+#[derive(Clone, Copy, PartialEq, Eq, Debug, Error)]
 pub enum WordFault {
     // a byte that begins no word
+    #[error("no word begins with this byte")]
     Stray(usize),
     // a comment that is never closed
+    #[error("this comment is never closed")]
     Unclosed(usize),
     // a number outside INT
+    #[error("this number lies outside INT, -32768 to 32767")]
     OutsideInt(usize),
 }
 
