@@ -39,6 +39,7 @@ pub fn take_in_at<D: Domain>(
     ensures cells { cells.new ≡ slice_set cells.old place (taken_in D.ops widening (slice_index_or cells.old place (nothing D.ops)) given) }
     ensures changed { result ≡ not (cell_within D.ops given (slice_index_or cells.old place (nothing D.ops))) }
 {
+    // By an index: of a cell that `get_mut` lends, no proof knows what it holds afterwards.
     if place < cells.len() {
         take_in(&mut cells[place], given, widening)
     } else {
@@ -77,6 +78,7 @@ pub fn put<D: Domain>(
     ensures { cells.new ≡ with_cell width cells.old index column cell }
 {
     let place = index.saturating_mul(width).saturating_add(column);
+    // By an index, for the same reason.
     if column < width && place < cells.len() {
         cells[place] = cell;
     }
@@ -86,6 +88,7 @@ pub fn put<D: Domain>(
 pub fn clear<D: Domain>(cells: &mut [Cell<D>])
     ensures { cells.new ≡ cleared D.ops (length cells.old) }
 {
+    // In a loop: `fill` asks that a copy by `clone` cannot fail, which no kind of sets promises.
     let nothing = Cell::nothing();
     for cell in cells.iter_mut() {
         *cell = nothing;
