@@ -32,10 +32,6 @@ impl From<Constant> for Value {
     }
 }
 
-impl Sort {
-    pub const ALL: [Sort; 3] = [Sort::Unset, Sort::Bool, Sort::Int];
-}
-
 impl Value {
     pub fn sort(self) -> Sort
         ensures { result ≡ sort_of self }

@@ -1,6 +1,6 @@
--- One turn of bringing a row to a table, and of clearing one.
-use Rattle.std.proofs.Common.{◌≡◌, ℕ, ◌+◌, ◌<◌, ◌≤◌, Bool as Truth, not, ◌||◌, ◌⊎◌, List, [], ◌∷◌, ◌++◌, length, get_or, take, drop, set, replicate, sym, ap, ◌∙◌, inl, inr, arith}
-use Rattle.std.proofs.lemmas.List.{at_drop_more, get_or_past, set_past, take_more_set, replicate_more}
+-- One turn of bringing a row to a table.
+use Rattle.std.proofs.Common.{◌≡◌, ℕ, ◌+◌, ◌<◌, ◌≤◌, Bool as Truth, not, ◌||◌, ◌⊎◌, List, length, get_or, drop, set, sym, ap, ◌∙◌, inl, inr, arith}
+use Rattle.std.proofs.lemmas.List.{at_drop_more, get_or_past, set_past}
 use Rattle.domain.specs.Domain.{Ops}
 use Rattle.cells.specs.declared.cell.Cell.{Cell}
 use Rattle.cells.specs.Cells.{nothing, within}
@@ -26,6 +26,3 @@ module _ {S : Type 0} (o : Ops S) (widening : Truth) where
       let step = at_drop_more (grown o widening cells changed (start + i)) row i d h in
       let at : start + (i + 1) ≡ start + i + 1 = omega arith in
       cc
-
-pub cleared_more : {X : Type 0} (cells : List X) (i : ℕ) (x : X) → i < length cells → take i cells ≡ replicate i x → take (i + 1) (set cells i x) ≡ replicate (i + 1) x
-cleared_more cells i x h e = take_more_set cells i x h ∙ ap (λ l. l ++ x ∷ []) e ∙ replicate_more i x

@@ -22,11 +22,10 @@ pub fn take_in<D: Domain>(target: &mut Cell<D>, given: Cell<D>, widening: bool) 
     ensures cell { target.new ≡ taken_in D.ops widening target.old given }
     ensures changed { result ≡ not (cell_within D.ops given target.old) }
 {
-    let own = *target;
-    if given.within(own) {
+    if given.within(*target) {
         return false;
     }
-    *target = grow(own, given, widening);
+    *target = grow(*target, given, widening);
     true
 }
 
@@ -40,6 +39,7 @@ pub fn take_in_at<D: Domain>(
     ensures cells { cells.new ≡ slice_set cells.old place (taken_in D.ops widening (slice_index_or cells.old place (nothing D.ops)) given) }
     ensures changed { result ≡ not (cell_within D.ops given (slice_index_or cells.old place (nothing D.ops))) }
 {
+    // By an index: of a cell that `get_mut` lends, no proof knows what it holds afterwards.
     if place < cells.len() {
         take_in(&mut cells[place], given, widening)
     } else {
@@ -59,10 +59,10 @@ pub fn take_in_row<D: Domain>(
     ensures changed { result ≡ (with_row D.ops widening width cells.old index row.now).changed }
 {
     let start = index.saturating_mul(width);
+    let brought = &row[..width.min(row.len())];
     let mut changed = false;
-    for i in 0..width.min(row.len()) {
-        let grew = take_in_at(cells, start.saturating_add(i), row[i], widening);
-        changed = changed | grew;
+    for (i, cell) in brought.iter().enumerate() {
+        changed |= take_in_at(cells, start.saturating_add(i), *cell, widening);
     }
     changed
 }
@@ -78,10 +78,9 @@ pub fn put<D: Domain>(
     ensures { cells.new ≡ with_cell width cells.old index column cell }
 {
     let place = index.saturating_mul(width).saturating_add(column);
-    if column < width {
-        if place < cells.len() {
-            cells[place] = cell;
-        }
+    // By an index, for the same reason.
+    if column < width && place < cells.len() {
+        cells[place] = cell;
     }
 }
 
@@ -89,8 +88,9 @@ pub fn put<D: Domain>(
 pub fn clear<D: Domain>(cells: &mut [Cell<D>])
     ensures { cells.new ≡ cleared D.ops (length cells.old) }
 {
+    // In a loop: `fill` asks that a copy by `clone` cannot fail, which no kind of sets promises.
     let nothing = Cell::nothing();
-    for i in 0..cells.len() {
-        cells[i] = nothing;
+    for cell in cells.iter_mut() {
+        *cell = nothing;
     }
 }

@@ -15,19 +15,17 @@ pub fn row_at<D: Domain>(cells: &[Cell<D>], width: usize, index: usize) -> &[Cel
     ensures { result.now ≡ row_at width cells.now index }
 {
     let start = index.saturating_mul(width).min(cells.len());
-    let count = width.min(cells.len() - start);
-    &cells[start..start + count]
+    let rest = &cells[start..];
+    &rest[..width.min(rest.len())]
 }
 
 // The operation of a statement; a return where there is none.
 pub fn operation_at(statements: &[Statement], index: usize) -> Operation
     ensures { result ≡ operation_at statements.now index }
 {
-    if index < statements.len() {
-        statements[index].operation()
-    } else {
-        Operation::Return
-    }
+    statements
+        .get(index)
+        .map_or(Operation::Return, |statement| statement.operation())
 }
 
 // The cell at an index of the start row, or one that allows nothing.
@@ -35,13 +33,11 @@ pub fn start_row_cell<D: Domain>(variables: &[Variable], index: usize) -> Cell<D
     ensures { result ≡ slice_index_or (start_row D.ops variables.now) index (nothing D.ops) }
 {
     if index == 0 {
-        Cell::of_value(Value::Unset)
-    } else {
-        if index - 1 < variables.len() {
-            initial_cell(variables[index - 1])
-        } else {
-            Cell::nothing()
-        }
+        return Cell::of_value(Value::Unset);
+    }
+    match variables.get(index - 1) {
+        Some(variable) => initial_cell(*variable),
+        None => Cell::nothing(),
     }
 }
 
@@ -49,11 +45,8 @@ pub fn start_row_cell<D: Domain>(variables: &[Variable], index: usize) -> Cell<D
 pub fn is_start_unreachable<D: Domain>(variables: &[Variable]) -> bool
     ensures { result ≡ is_unreachable D.Domain.ops (start_row D.Domain.ops variables.now) }
 {
-    for i in 0..variables.len() {
-        let cell: Cell<D> = initial_cell(variables[i]);
-        if cell.is_vacant() {
-            return true;
-        }
-    }
-    false
+    variables
+        .iter()
+        .map(|variable| initial_cell::<D>(*variable))
+        .any(|cell| cell.is_vacant())
 }

@@ -1,19 +1,16 @@
--- One turn of the search for a vacant cell.
-use Rattle.std.proofs.Common.{◌≡◌, ℕ, ◌+◌, ◌<◌, ◌≤◌, true, false, ◌||◌, List, length, get_or, drop, sym, ap, ◌∙◌}
-use Rattle.std.proofs.lemmas.List.{at_drop_more, at_drop_all}
-use Rattle.domain.specs.Domain.{Ops}
-use Rattle.cells.specs.declared.cell.Cell.{Cell}
-use Rattle.cells.specs.Cells.{is_vacant}
-use Rattle.transfer.specs.Rows.{is_unreachable}
+-- A search for a vacant cell by its index.
+use Rattle.std.proofs.Common.{◌≡◌, ℕ, suc, ◌+◌, ◌<◌, Bool, ◌||◌, List, [], ◌∷◌, length, get_or, sym, refl, ap, ◌∙◌, zero-add, add-zero, arith}
+use Rattle.std.specs.List.{list_any, range_with_len}
 
-module _ {S : Type 0} (o : Ops S) (cells : List (Cell S)) (i : ℕ) where
-  pub vacant-here : (c d : Cell S) → i < length cells → c ≡ get_or cells i d → is_vacant o c ≡ true → is_unreachable o (drop i cells) ≡ true
-  vacant-here c d h is e =
-      at_drop_more (is_unreachable o) cells i d h ∙ ap (λ t. t || is_unreachable o (drop (i + 1) cells)) (ap (is_vacant o) (sym is) ∙ e)
+module _ {X : Type 0} (p : X → Bool) (d : X) where
+  from : (f : ℕ → Bool) (xs : List X) (a : ℕ) → ((i : ℕ) → i < length xs → f (a + i) ≡ p (get_or xs i d)) → list_any f (range_with_len a (length xs)) ≡ list_any p xs
+  from f [] a h = refl
+  from f (x ∷ xs) a h =
+      let here : f a ≡ p x = ap f (sym (add-zero a)) ∙ h 0 (omega arith) in
+      let rest : list_any f (range_with_len (a + 1) (length xs)) ≡ list_any p xs = from f xs (a + 1) (λ i l. ap f (omega arith) ∙ h (suc i) (omega arith)) in
+      ap (λ b. b || list_any f (range_with_len (a + 1) (length xs))) here ∙ ap (λ b. p x || b) rest
 
-  pub vacant-further : (c d : Cell S) → i < length cells → c ≡ get_or cells i d → is_vacant o c ≡ false → is_unreachable o (drop i cells) ≡ is_unreachable o (drop (i + 1) cells)
-  vacant-further c d h is e =
-      at_drop_more (is_unreachable o) cells i d h ∙ ap (λ t. t || is_unreachable o (drop (i + 1) cells)) (ap (is_vacant o) (sym is) ∙ e)
-
-  pub vacant-nowhere : length cells ≤ i → is_unreachable o (drop i cells) ≡ false
-  vacant-nowhere h = at_drop_all (is_unreachable o) cells i h
+  -- a test of the item at each index is one of each item
+  pub any-by_index : (xs : List X) (n : ℕ) → n ≡ length xs → list_any (λ i. p (get_or xs i d)) (range_with_len 0 n) ≡ list_any p xs
+  any-by_index xs n e =
+      ap (λ k. list_any (λ i. p (get_or xs i d)) (range_with_len 0 k)) e ∙ from (λ i. p (get_or xs i d)) xs 0 (λ i l. ap (λ k. p (get_or xs k d)) (zero-add i))

@@ -1,5 +1,6 @@
 -- Rows: a cell for the current result and one for each variable; the row that starts a program, and the one a return leaves.
-use Rattle.std.specs.Prelude.{ℕ, ◌+◌, ◌*◌, Bool as Truth, true, false, ◌&&◌, ◌||◌, List, [], ◌∷◌, length, take, drop}
+use Rattle.std.specs.Prelude.{ℕ, ◌+◌, ◌*◌, Bool as Truth, true, ◌&&◌, List, [], ◌∷◌, map, length, take, drop}
+use Rattle.std.specs.List.{list_any}
 use Rattle.domain.specs.Domain.{Ops}
 use Rattle.syntax.specs.declared.record.Class.{Class}
 use Rattle.syntax.specs.declared.record.Class.TheVariants.{Local, Input, Output}
@@ -29,8 +30,7 @@ module _ {S : Type 0} (o : Ops S) where
 
   -- a row with a vacant cell is unreachable
   abbrev pub is_unreachable : List (Cell S) → Truth
-  is_unreachable [] = false
-  is_unreachable (c ∷ cells) = is_vacant o c || is_unreachable cells
+  is_unreachable cells = list_any (is_vacant o) cells
 
   -- what an input can be given: a BOOL either truth, an INT its range
   abbrev pub given_to : Constant → Variable → Cell S
@@ -47,8 +47,7 @@ module _ {S : Type 0} (o : Ops S) where
   initial_cell v = start_cell v.declaration.class v (of_value o (value_of v.declaration.initial))
 
   abbrev pub initial_cells : List Variable → List (Cell S)
-  initial_cells [] = []
-  initial_cells (v ∷ vars) = initial_cell v ∷ initial_cells vars
+  initial_cells vars = map initial_cell vars
 
   -- the start row: the current result is unset, and the variables have their initial values or what they are given
   abbrev pub start_row : List Variable → List (Cell S)

@@ -1,5 +1,5 @@
 -- How a row is carried along a statement: the parts that would stop it are dropped, and the sets' functions do the rest.
-use Rattle.std.specs.Prelude.{ℕ, ◌+◌, Bool as Truth, true, false, cond, not, ◌&&◌, ◌||◌, List, ◌∷◌, drop, Some, None, Option, slice_index_or, slice_set}
+use Rattle.std.specs.Prelude.{◌≡◌, ℕ, ◌+◌, Bool as Truth, true, false, cond, not, ◌&&◌, ◌||◌, List, ◌∷◌, drop, Some, None, Option, slice_index_or, slice_set}
 use Rattle.domain.specs.Domain.{Ops}
 use Rattle.domain.specs.declared.Truth.{Truth as Flags}
 use Rattle.syntax.specs.declared.operator.Operator.{Operator}
@@ -27,6 +27,10 @@ use Rattle.transfer.specs.Rows.{restart_cells}
 -- something holds for one of the three sorts
 abbrev pub any_sort : (Sort → Truth) → Truth
 any_sort f = f sort.Unset || (f sort.Bool || f sort.Int)
+
+-- what a call of a closure can answer is what a test says
+abbrev pub Computes : {A : Type 0} → (A → Truth → Type 0) → (A → Truth) → Type 0
+Computes answers f = (x : _) (t : Truth) → answers x t → t ≡ f x
 
 -- the truths exchanged
 abbrev pub exchanged : Flags → Flags
@@ -83,6 +87,10 @@ module _ {S : Type 0} (o : Ops S) where
       (x.can_be_false && (y.can_be_false && f false false))
       || ((x.can_be_false && (y.can_be_true && f false true))
       || ((x.can_be_true && (y.can_be_false && f true false)) || (x.can_be_true && (y.can_be_true && f true true))))
+
+  -- an answer over every allowed pair, where `test` relates two truths to what is said of them
+  abbrev pub OverPairs : (Truth → Truth → Truth → Type 0) → Cell S → Cell S → Truth → Type 0
+  OverPairs test x y r = (f : Truth → Truth → Truth) → ((a b t : Truth) → test a b t → t ≡ f a b) → r ≡ over_pairs f x y
 
   abbrev pub logical : Operator → Cell S → Cell S → Cell S
   logical p x y = truths (over_pairs (λ a b. not (combined p a b)) x y) (over_pairs (combined p) x y)

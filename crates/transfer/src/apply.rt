@@ -1,7 +1,6 @@
 // What an operator and a store make of cells.
-ghost use Rattle.std.specs.Prelude.{◌≡◌, not};
-ghost use Rattle.meaning.specs.Meaning.{combined};
-ghost use Rattle.transfer.specs.Transfer.{over_pairs, truths as truths_of, numbers_only, flagged, exchanged, opposites as opposites_of, logical as logical_of, transferred, stored_cell, only_truth};
+ghost use Rattle.std.specs.Prelude.{◌≡◌};
+ghost use Rattle.transfer.specs.Transfer.{OverPairs, truths as truths_of, numbers_only, flagged, opposites as opposites_of, logical as logical_of, transferred, stored_cell, only_truth};
 
 use cells::cell::Cell;
 use domain::{Domain, Truth};
@@ -13,10 +12,9 @@ fn truths<D: Domain>(can_be_false: bool, can_be_true: bool) -> Cell<D>
     ensures { result ≡ truths_of D.ops can_be_false can_be_true }
 {
     Cell {
-        unset: false,
         can_be_false,
         can_be_true,
-        numbers: D::span(1, 0),
+        ..Cell::nothing()
     }
 }
 
@@ -38,13 +36,6 @@ fn flagged_cell<D: Domain>(flags: Truth) -> Cell<D>
     truths(flags.can_be_false, flags.can_be_true)
 }
 
-// The cell of the opposite truths.
-fn exchanged_cell<D: Domain>(flags: Truth) -> Cell<D>
-    ensures { result ≡ flagged D.ops (exchanged flags) }
-{
-    truths(flags.can_be_true, flags.can_be_false)
-}
-
 // The opposites of a cell's truths.
 pub fn opposites<D: Domain>(cell: Cell<D>) -> Cell<D>
     ensures { result ≡ opposites_of D.ops cell }
@@ -52,30 +43,24 @@ pub fn opposites<D: Domain>(cell: Cell<D>) -> Cell<D>
     truths(cell.can_be_true, cell.can_be_false)
 }
 
-// Whether a logical operator gives TRUE for some allowed pair.
-fn gives_true<D: Domain>(operator: Operator, x: Cell<D>, y: Cell<D>) -> bool
-    ensures { result ≡ over_pairs D.ops (combined operator) x y }
+// Whether a test is passed by some pair of truths that the cells allow.
+fn over_pairs<D: Domain, F: Fn(bool, bool) -> bool>(test: F, x: Cell<D>, y: Cell<D>) -> bool
+    requires { F.IsAlwaysCallable test }
+    ensures { OverPairs D.ops (F.post test) x y result }
 {
-    (x.can_be_false & (y.can_be_false & combine(operator, false, false)))
-        | ((x.can_be_false & (y.can_be_true & combine(operator, false, true)))
-            | ((x.can_be_true & (y.can_be_false & combine(operator, true, false)))
-                | (x.can_be_true & (y.can_be_true & combine(operator, true, true)))))
-}
-
-// Whether it gives FALSE for some allowed pair.
-fn gives_false<D: Domain>(operator: Operator, x: Cell<D>, y: Cell<D>) -> bool
-    ensures { result ≡ over_pairs D.ops (λ a b. not (combined operator a b)) x y }
-{
-    (x.can_be_false & (y.can_be_false & !combine(operator, false, false)))
-        | ((x.can_be_false & (y.can_be_true & !combine(operator, false, true)))
-            | ((x.can_be_true & (y.can_be_false & !combine(operator, true, false)))
-                | (x.can_be_true & (y.can_be_true & !combine(operator, true, true)))))
+    (x.can_be_false && y.can_be_false && test(false, false))
+        || (x.can_be_false && y.can_be_true && test(false, true))
+        || (x.can_be_true && y.can_be_false && test(true, false))
+        || (x.can_be_true && y.can_be_true && test(true, true))
 }
 
 fn logical<D: Domain>(operator: Operator, x: Cell<D>, y: Cell<D>) -> Cell<D>
     ensures { result ≡ logical_of D.ops operator x y }
 {
-    truths(gives_false(operator, x, y), gives_true(operator, x, y))
+    truths(
+        over_pairs(|a, b| !combine(operator, a, b), x, y),
+        over_pairs(|a, b| combine(operator, a, b), x, y),
+    )
 }
 
 // The cell of the current result after an operator, from what is kept of it and of the operand.
@@ -90,11 +75,11 @@ pub fn transfer_cell<D: Domain>(operator: Operator, x: Cell<D>, y: Cell<D>) -> C
         Operator::Mul => numbers_only(x.numbers.mul(y.numbers)),
         Operator::Div => numbers_only(x.numbers.div(y.numbers)),
         Operator::Gt => flagged_cell(y.numbers.less(x.numbers)),
-        Operator::Ge => exchanged_cell(x.numbers.less(y.numbers)),
+        Operator::Ge => opposites(flagged_cell(x.numbers.less(y.numbers))),
         Operator::Lt => flagged_cell(x.numbers.less(y.numbers)),
-        Operator::Le => exchanged_cell(y.numbers.less(x.numbers)),
+        Operator::Le => opposites(flagged_cell(y.numbers.less(x.numbers))),
         Operator::Eq => flagged_cell(x.numbers.equal(y.numbers)),
-        Operator::Ne => exchanged_cell(x.numbers.equal(y.numbers)),
+        Operator::Ne => opposites(flagged_cell(x.numbers.equal(y.numbers))),
         _ => logical(operator, x, y),
     }
 }
@@ -107,12 +92,12 @@ pub fn stored_cell<D: Domain>(store: Store, x: Cell<D>, y: Cell<D>) -> Cell<D>
         Store::St => x,
         Store::Stn => opposites(x),
         Store::Set => truths(
-            x.can_be_false & y.can_be_false,
-            x.can_be_true | (x.can_be_false & y.can_be_true),
+            x.can_be_false && y.can_be_false,
+            x.can_be_true || (x.can_be_false && y.can_be_true),
         ),
         Store::Reset => truths(
-            x.can_be_true | (x.can_be_false & y.can_be_false),
-            x.can_be_false & y.can_be_true,
+            x.can_be_true || (x.can_be_false && y.can_be_false),
+            x.can_be_false && y.can_be_true,
         ),
     }
 }

@@ -3,10 +3,10 @@ ghost use Rattle.std.specs.Prelude.{◌≡◌, ◌+◌, ◌<◌, length, drop, s
 ghost use Rattle.cells.specs.Cells.{nothing};
 ghost use Rattle.transfer.specs.Rows.{is_unreachable, restart_cells};
 ghost use Rattle.transfer.specs.Transfer.{with_result, with_variable, return_row, carried as carried_row, target_of};
-ghost use Rattle.transfer.specs.Carrying.{mapped, changed_row, row_of, gives_inputs, resulting as resulting_in, jump_change, fall_change, return_change, change_by, target_held};
+ghost use Rattle.transfer.specs.Carrying.{mapped, changed_row, row_of, resulting as resulting_in, jump_change, change_by, target_held};
 
 use crate::apply::{only_truth, opposites, stored_cell, transfer_cell};
-use crate::operand::{left, right, variable_at};
+use crate::operand::{left, right};
 use crate::rows::{cell_at, initial_cell, start_cell};
 use cells::cell::Cell;
 use cells::value::Value;
@@ -44,40 +44,15 @@ fn resulting<D: Domain>(cr: Cell<D>) -> Carried<D>
 fn jump_change<D: Domain>(jump: Jump, edge: Edge, x: Cell<D>) -> Option<Carried<D>>
     ensures { result ≡ jump_change D.ops jump edge x }
 {
-    match jump {
-        Jump::Jmp => match edge {
-            Edge::Fall => None,
-            Edge::Jump => Some(resulting(x)),
-        },
-        Jump::Jmpc => match edge {
-            Edge::Fall => Some(resulting(only_truth(false, x))),
-            Edge::Jump => Some(resulting(only_truth(true, x))),
-        },
-        Jump::Jmpcn => match edge {
-            Edge::Fall => Some(resulting(only_truth(true, x))),
-            Edge::Jump => Some(resulting(only_truth(false, x))),
-        },
-    }
-}
-
-fn fall_change<D: Domain>(edge: Edge, carried: Carried<D>) -> Option<Carried<D>>
-    ensures { result ≡ fall_change D.ops edge carried }
-{
-    match edge {
-        Edge::Fall => Some(carried),
-        Edge::Jump => None,
-    }
-}
-
-fn return_change<D: Domain>(edge: Edge) -> Option<Carried<D>>
-    ensures { result ≡ return_change D.ops edge }
-{
-    match edge {
-        Edge::Fall => None,
-        Edge::Jump => Some(Carried {
-            cr: Cell::of_value(Value::Unset),
-            change: Change::Inputs,
-        }),
+    match (jump, edge) {
+        (Jump::Jmp, Edge::Fall) => None,
+        (Jump::Jmp, Edge::Jump) => Some(resulting(x)),
+        (Jump::Jmpc, Edge::Jump) | (Jump::Jmpcn, Edge::Fall) => Some(resulting(only_truth(
+            true, x,
+        ))),
+        (Jump::Jmpc, Edge::Fall) | (Jump::Jmpcn, Edge::Jump) => Some(resulting(only_truth(
+            false, x,
+        ))),
     }
 }
 
@@ -90,22 +65,22 @@ fn change_by<D: Domain>(
 ) -> Option<Carried<D>>
     ensures { result ≡ change_by D.ops x y operation edge }
 {
-    match operation {
-        Operation::Return => return_change(edge),
-        Operation::Not => fall_change(edge, resulting(opposites(x))),
-        Operation::Label(_) => fall_change(edge, resulting(x)),
-        Operation::Apply(operator, _) => fall_change(
-            edge,
-            resulting(transfer_cell(operator, x, y)),
-        ),
-        Operation::Store(store, index) => fall_change(
-            edge,
-            Carried {
-                cr: x,
-                change: Change::Variable(index, stored_cell(store, x, y)),
-            },
-        ),
-        Operation::Jump(jump, _) => jump_change(jump, edge, x),
+    match (operation, edge) {
+        (Operation::Jump(jump, _), _) => jump_change(jump, edge, x),
+        (Operation::Return, Edge::Jump) => Some(Carried {
+            cr: Cell::of_value(Value::Unset),
+            change: Change::Inputs,
+        }),
+        (Operation::Return, Edge::Fall) | (_, Edge::Jump) => None,
+        (Operation::Not, Edge::Fall) => Some(resulting(opposites(x))),
+        (Operation::Label(_), Edge::Fall) => Some(resulting(x)),
+        (Operation::Apply(operator, _), Edge::Fall) => Some(resulting(transfer_cell(
+            operator, x, y,
+        ))),
+        (Operation::Store(store, index), Edge::Fall) => Some(Carried {
+            cr: x,
+            change: Change::Variable(index, stored_cell(store, x, y)),
+        }),
     }
 }
 
@@ -120,19 +95,18 @@ pub fn carry<D: Domain>(
 {
     let x = left(variables, row, operation);
     let y = right(variables, row, operation);
-    if x.is_vacant() | y.is_vacant() {
-        None
-    } else {
-        change_by(x, y, operation, edge)
+    if x.is_vacant() || y.is_vacant() {
+        return None;
     }
+    change_by(x, y, operation, edge)
 }
 
 // The cell at an index of a row with another current result.
 fn result_cell<D: Domain>(row: &[Cell<D>], cr: Cell<D>, index: usize) -> Cell<D>
     ensures { result ≡ slice_index_or (with_result D.ops row.now cr) index (nothing D.ops) }
 {
-    if index == 0 {
-        if row.len() == 0 { Cell::nothing() } else { cr }
+    if index == 0 && !row.is_empty() {
+        cr
     } else {
         cell_at(row, index)
     }
@@ -148,18 +122,10 @@ fn changed_cell<D: Domain>(
 ) -> Cell<D>
     ensures { result ≡ slice_index_or (with_variable D.ops row.now cr variable cell) index (nothing D.ops) }
 {
-    if index == 0 {
-        result_cell(row, cr, index)
+    if index.checked_sub(1) == Some(variable) && index < row.len() {
+        cell
     } else {
-        if index - 1 == variable {
-            if index < row.len() {
-                cell
-            } else {
-                Cell::nothing()
-            }
-        } else {
-            result_cell(row, cr, index)
-        }
+        result_cell(row, cr, index)
     }
 }
 
@@ -167,14 +133,12 @@ fn changed_cell<D: Domain>(
 fn restart_cell<D: Domain>(variables: &[Variable], row: &[Cell<D>], index: usize) -> Cell<D>
     ensures { result ≡ slice_index_or (restart_cells D.ops variables.now (drop 1 row.now)) index (nothing D.ops) }
 {
-    if index < variables.len() {
-        if index + 1 < row.len() {
-            start_cell(variable_at(variables, index), cell_at(row, index + 1))
-        } else {
-            initial_cell(variable_at(variables, index))
-        }
-    } else {
-        Cell::nothing()
+    let Some(&variable) = variables.get(index) else {
+        return Cell::nothing();
+    };
+    match row.get(index + 1) {
+        Some(&own) => start_cell(variable, own),
+        None => initial_cell(variable),
     }
 }
 
@@ -218,16 +182,6 @@ pub fn carried_cell<D: Domain>(
     cell_after(carried.change, carried.cr, variables, row, index)
 }
 
-// Whether every input is given a value anew.
-fn gives_inputs<D: Domain>(change: Change<D>) -> bool
-    ensures { result ≡ gives_inputs D.ops change }
-{
-    match change {
-        Change::Inputs => true,
-        _ => false,
-    }
-}
-
 // Whether a carried row that is as long as the row before has a vacant cell.
 fn is_changed_unreachable<D: Domain>(
     carried: Carried<D>,
@@ -236,24 +190,14 @@ fn is_changed_unreachable<D: Domain>(
 ) -> bool
     ensures { length (row_of D.ops variables.now row.now carried) ≡ length row.now → result ≡ is_unreachable D.ops (row_of D.ops variables.now row.now carried) }
 {
-    for i in 0..row.len() {
-        if carried_cell(carried, variables, row, i).is_vacant() {
-            return true;
-        }
-    }
-    false
+    (0..row.len()).any(|index| carried_cell(carried, variables, row, index).is_vacant())
 }
 
 // Whether the row that a return leaves has a vacant cell; its current result is unset.
 fn is_return_unreachable<D: Domain>(variables: &[Variable], row: &[Cell<D>]) -> bool
     ensures { result ≡ is_unreachable D.ops (return_row D.ops variables.now row.now) }
 {
-    for i in 0..variables.len() {
-        if restart_cell(variables, row, i).is_vacant() {
-            return true;
-        }
-    }
-    false
+    (0..variables.len()).any(|index| restart_cell(variables, row, index).is_vacant())
 }
 
 // Whether a carried row has a vacant cell.
@@ -264,10 +208,9 @@ pub fn is_carried_unreachable<D: Domain>(
 ) -> bool
     ensures { result ≡ is_unreachable D.ops (row_of D.ops variables.now row.now carried) }
 {
-    if gives_inputs(carried.change) {
-        is_return_unreachable(variables, row)
-    } else {
-        is_changed_unreachable(carried, variables, row)
+    match carried.change {
+        Change::Inputs => is_return_unreachable(variables, row),
+        _ => is_changed_unreachable(carried, variables, row),
     }
 }
 
@@ -277,13 +220,7 @@ pub fn target(number: usize, operation: Operation, edge: Edge) -> usize
     ensures is { number < 18446744073709551615 → result ≡ target_of number operation edge }
 {
     match edge {
-        Edge::Fall => {
-            if number < usize::MAX {
-                number + 1
-            } else {
-                number
-            }
-        }
+        Edge::Fall => number.saturating_add(1),
         Edge::Jump => match operation {
             Operation::Jump(_, target) => target.statement,
             _ => 0,

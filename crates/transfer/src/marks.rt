@@ -3,9 +3,9 @@ ghost use Rattle.std.specs.Prelude.{◌≡◌, not, ◌&&◌};
 ghost use Rattle.cells.specs.Cells.{has};
 ghost use Rattle.meaning.specs.Meaning.{accepted};
 ghost use Rattle.transfer.specs.Transfer.{any_sort};
-ghost use Rattle.transfer.specs.Marks.{number_of, has_cause, kind_mark, zero_by, zero_mark, overflow_by, overflow_mark, marks_of};
+ghost use Rattle.transfer.specs.Marks.{number_of, has_cause, kind_mark, zero_mark, overflow_mark, marks_of};
 
-use crate::operand::operand;
+use crate::operand::{any_sort, operand};
 use crate::rows::{cell_at, is_unreachable};
 use cells::cell::Cell;
 use cells::value::Sort;
@@ -38,11 +38,10 @@ impl Marks {
     pub fn number(self) -> u8
         ensures { result ≡ number_of self }
     {
-        let unreachable = if self.unreachable { 8 } else { 0 };
-        let kind = if self.kind { 4 } else { 0 };
-        let zero = if self.zero_divisor { 2 } else { 0 };
-        let overflow = if self.overflow { 1 } else { 0 };
-        unreachable + (kind + (zero + overflow))
+        8 * u8::from(self.unreachable)
+            + 4 * u8::from(self.kind)
+            + 2 * u8::from(self.zero_divisor)
+            + u8::from(self.overflow)
     }
 
     // Whether the mark of a cause is among them.
@@ -61,53 +60,38 @@ impl Marks {
 fn refuses<D: Domain>(operation: Operation, left: Cell<D>, right: Cell<D>, sort: Sort) -> bool
     ensures { result ≡ any_sort (λ b. has D.ops left sort && (has D.ops right b && not (accepted operation sort b))) }
 {
-    (left.has(sort) & (right.has(Sort::Unset) & !accepts(operation, sort, Sort::Unset)))
-        | ((left.has(sort) & (right.has(Sort::Bool) & !accepts(operation, sort, Sort::Bool)))
-            | (left.has(sort) & (right.has(Sort::Int) & !accepts(operation, sort, Sort::Int))))
+    any_sort(|other| left.has(sort) && right.has(other) && !accepts(operation, sort, other))
 }
 
+// K: whether the current result and the operand allow parts that are not accepted together.
 fn kind_mark<D: Domain>(operation: Operation, left: Cell<D>, right: Cell<D>) -> bool
     ensures { result ≡ kind_mark D.ops operation left right }
 {
-    refuses(operation, left, right, Sort::Unset)
-        | (refuses(operation, left, right, Sort::Bool) | refuses(operation, left, right, Sort::Int))
+    any_sort(|sort| refuses(operation, left, right, sort))
 }
 
-fn zero_by<D: Domain>(operator: Operator, left: Cell<D>, right: Cell<D>) -> bool
-    ensures { result ≡ zero_by D.ops operator left right }
-{
-    match operator {
-        Operator::Div => !left.numbers.is_empty() & right.numbers.contains(0),
-        _ => false,
-    }
-}
-
+// Z: whether a division by 0 is allowed.
 fn zero_mark<D: Domain>(operation: Operation, left: Cell<D>, right: Cell<D>) -> bool
     ensures { result ≡ zero_mark D.ops operation left right }
 {
     match operation {
-        Operation::Apply(operator, _) => zero_by(operator, left, right),
+        Operation::Apply(Operator::Div, _) => !left.numbers.is_empty() && right.numbers.contains(0),
         _ => false,
     }
 }
 
-fn overflow_by<D: Domain>(operator: Operator, left: Cell<D>, right: Cell<D>) -> bool
-    ensures { result ≡ overflow_by D.ops operator left right }
+// O: whether a result outside INT is allowed.
+fn overflow_mark<D: Domain>(operation: Operation, left: Cell<D>, right: Cell<D>) -> bool
+    ensures { result ≡ overflow_mark D.ops operation left right }
 {
+    let Operation::Apply(operator, _) = operation else {
+        return false;
+    };
     match operator {
         Operator::Add => left.numbers.add_overflows(right.numbers),
         Operator::Sub => left.numbers.sub_overflows(right.numbers),
         Operator::Mul => left.numbers.mul_overflows(right.numbers),
-        Operator::Div => left.numbers.contains(Int::MIN) & right.numbers.contains(-1),
-        _ => false,
-    }
-}
-
-fn overflow_mark<D: Domain>(operation: Operation, left: Cell<D>, right: Cell<D>) -> bool
-    ensures { result ≡ overflow_mark D.ops operation left right }
-{
-    match operation {
-        Operation::Apply(operator, _) => overflow_by(operator, left, right),
+        Operator::Div => left.numbers.contains(Int::MIN) && right.numbers.contains(-1),
         _ => false,
     }
 }
@@ -118,10 +102,8 @@ pub fn marks_of<D: Domain>(variables: &[Variable], row: &[Cell<D>], operation: O
 {
     if is_unreachable(row) {
         Marks {
-            overflow: false,
-            zero_divisor: false,
-            kind: false,
             unreachable: true,
+            ..Marks::NONE
         }
     } else {
         let left = cell_at(row, 0);

@@ -12,23 +12,14 @@ use syntax::record::{Class, Constant, Variable};
 pub fn cell_at<D: Domain>(row: &[Cell<D>], index: usize) -> Cell<D>
     ensures { result ≡ slice_index_or row.now index (nothing D.ops) }
 {
-    if index < row.len() {
-        row[index]
-    } else {
-        Cell::nothing()
-    }
+    row.get(index).copied().unwrap_or(Cell::nothing())
 }
 
 // Whether some cell of the row is vacant.
 pub fn is_unreachable<D: Domain>(row: &[Cell<D>]) -> bool
     ensures { result ≡ is_unreachable D.ops row.now }
 {
-    for i in 0..row.len() {
-        if row[i].is_vacant() {
-            return true;
-        }
-    }
-    false
+    row.iter().any(|cell| cell.is_vacant())
 }
 
 // What an input can be given: a BOOL either truth, an INT its range.

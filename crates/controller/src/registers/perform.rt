@@ -1,6 +1,6 @@
 // One statement carried out on values.
 ghost use Rattle.std.specs.Prelude.{◌≡◌};
-ghost use Rattle.meaning.specs.Meaning.{kind_value, operand_of, stored_on, operand as operand_for, stored, jumps as jumps_on, with_result, performed, perform as meant};
+ghost use Rattle.meaning.specs.Meaning.{operand as operand_for, stored, jumps as jumps_on, with_result, performed, perform as meant};
 ghost use Rattle.controller.specs.Registers.{held, Performed};
 
 use super::Registers;
@@ -9,19 +9,9 @@ use cells::value::Value;
 use meaning::accepts::accepts;
 use meaning::compute::{Cause, compute, negate, truth};
 use meaning::edge::Edge;
+use meaning::source::{Source, operand_source};
 use syntax::operator::{Jump, Store};
-use syntax::record::{Operand, Operation, Variable};
-
-// A value of the kind that a variable is declared with.
-fn kind_value(variables: &[Variable], index: usize) -> Value
-    ensures { result ≡ kind_value variables.now index }
-{
-    if index < variables.len() {
-        Value::from(variables[index].declaration().initial)
-    } else {
-        Value::Bool(false)
-    }
-}
+use syntax::record::{Operation, Variable};
 
 // Whether a jump is taken.
 fn jumps(jump: Jump, cr: Value) -> bool
@@ -35,38 +25,13 @@ fn jumps(jump: Jump, cr: Value) -> bool
 }
 
 impl Registers {
-    fn operand_value(&self, operand: Operand) -> Value
-        ensures { result ≡ operand_of (held self.now).values operand }
-    {
-        match operand {
-            Operand::Constant(constant) => Value::from(constant),
-            Operand::Variable(index) => read(&self.slots, index),
-        }
-    }
-
-    // What a store looks at: ST and STN at the variable's declared kind, S and R at its value.
-    fn stored_on(&self, variables: &[Variable], store: Store, index: usize) -> Value
-        ensures { result ≡ stored_on variables.now (held self.now).values store index }
-    {
-        match store {
-            Store::St => kind_value(variables, index),
-            Store::Stn => kind_value(variables, index),
-            Store::Set => read(&self.slots, index),
-            Store::Reset => read(&self.slots, index),
-        }
-    }
-
     // The operand of an operation; unset where it has none.
     fn operand(&self, variables: &[Variable], operation: Operation) -> Value
         ensures { result ≡ operand_for variables.now (held self.now).values operation }
     {
-        match operation {
-            Operation::Return => Value::Unset,
-            Operation::Not => Value::Unset,
-            Operation::Label(_) => Value::Unset,
-            Operation::Apply(_, operand) => self.operand_value(operand),
-            Operation::Store(store, index) => self.stored_on(variables, store, index),
-            Operation::Jump(_, _) => Value::Unset,
+        match operand_source(variables, operation) {
+            Source::Value(value) => value,
+            Source::Variable(index) => read(&self.slots, index),
         }
     }
 

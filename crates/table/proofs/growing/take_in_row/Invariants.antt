@@ -1,4 +1,4 @@
-use Rattle.std.proofs.Common.{◌≡◌, ◌+◌, ◌*◌, false, take, drop}
+use Rattle.std.proofs.Common.{◌≡◌, ◌+◌, ◌*◌, false, drop}
 use Rattle.table.specs.Growing.{grown}
 use Rattle.table.proofs.growing.take_in_row.Given as goal
 
@@ -6,5 +6,4 @@ use Rattle.table.proofs.growing.take_in_row.Given as goal
 abbrev pub invariant-loop-i : goal.invariant-loop-i
 invariant-loop-i g l =
     let o = g.D.Domain.ops in
-    let row = take l.width l.row in
-    grown o l.widening l.cells l.changed (l.index * l.width + l.i) (drop l.i row) ≡ grown o l.widening l.initial.cells false (l.index * l.width) row
+    grown o l.widening l.cells l.changed (l.index * l.width + l.i) (drop l.i l.brought) ≡ grown o l.widening l.initial.cells false (l.index * l.width) l.brought

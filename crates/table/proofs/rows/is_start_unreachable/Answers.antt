@@ -1,28 +1,11 @@
-use Rattle.std.proofs.Common.{sym, ◌∙◌, arith}
-use Rattle.cells.specs.Cells.{nothing}
-use Rattle.transfer.specs.Rows.{initial_cells}
-use Rattle.transfer.proofs.Vacant.{vacant-here, vacant-further, vacant-nowhere}
-use Rattle.table.proofs.Starting.{initial-length, initial-at}
+use Rattle.std.proofs.Common.{rules, tests}
+use Rattle.std.proofs.lemmas.Iterator.{YieldsList-from_slice, YieldsList-from_map}
+use Rattle.std.proofs.lemmas.Iterator.Search.{any_from_yields_List}
+use Rattle.cells.specs.Cells.{is_vacant}
+use Rattle.transfer.specs.Rows.{initial_cell}
 use Rattle.table.proofs.rows.is_start_unreachable.Goals as goal
-
-pub returns-then-is_vacant : goal.returns-then-is_vacant
-returns-then-is_vacant g c =
-    let o = g.D.Domain.ops in
-    let cells = initial_cells o c.args.variables.now in
-    let n = initial-length o c.args.variables.now in
-    let is = c.initial_cell-cell.ensures ∙ initial-at o c.args.variables.now c.loop-i.i _ (nothing o) c.loop-i-test.true in
-    sym (vacant-here o cells c.loop-i.i c.initial_cell-cell.result (nothing o) (omega arith) is (sym c.if-is_vacant.ensures)) ∙ c.loop-i.invariant
-
-pub loop-i-preserved : goal.loop-i-preserved
-loop-i-preserved g c =
-    let o = g.D.Domain.ops in
-    let cells = initial_cells o c.args.variables.now in
-    let n = initial-length o c.args.variables.now in
-    let is = c.initial_cell-cell.ensures ∙ initial-at o c.args.variables.now c.loop-i.i _ (nothing o) c.loop-i-test.true in
-    sym (vacant-further o cells c.loop-i.i c.initial_cell-cell.result (nothing o) (omega arith) is (sym c.if-is_vacant.ensures)) ∙ c.loop-i.invariant
 
 pub returns : goal.returns
 returns g c =
     let o = g.D.Domain.ops in
-    let n = initial-length o c.args.variables.now in
-    sym (vacant-nowhere o (initial_cells o c.args.variables.now) c.loop-i.i (omega arith)) ∙ c.loop-i.invariant
+    any_from_yields_List (is_vacant o) _ _ c.any.result c.any.ensures.ran (YieldsList-from_map _ (initial_cell o) (YieldsList-from_slice c.args.variables.now (search rules)) (search rules) (λ x r q k. search rules)) (λ x b q k. search (rules, tests))
