@@ -22,6 +22,7 @@ pub fn widens(sweep: u16) -> bool
 }
 
 // One sweep over a program's table, that joins or widens.
+// Its methods are lent the cells: a struct that held them would have each method promise that the program is left as it was.
 #[derive(Drop)]
 pub(crate) struct Sweep<'p> {
     pub(crate) variables: &'p [Variable],
