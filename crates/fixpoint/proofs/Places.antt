@@ -10,9 +10,9 @@ use Rattle.cells.specs.declared.value.Value.TheVariants.{Unset}
 use Rattle.cells.specs.declared.cell.Cell.{Cell}
 use Rattle.cells.specs.Cells.{of_value}
 use Rattle.transfer.specs.Rows.{row_at, start_cell, restart_cells}
-use Rattle.transfer.specs.Transfer.{return_row}
+use Rattle.transfer.specs.Transfer.{return_row, with_result, with_variable}
 use Rattle.transfer.proofs.Changes.{after_first, restart-within, restart-length}
-use Rattle.fixpoint.specs.Bringing.{changed_over, changed_at, restarted_at}
+use Rattle.fixpoint.specs.Bringing.{changed_at, restarted_at}
 
 -- row k of n rows
 pub row_fits : (n w k : ℕ) → k < n → k * w + w ≤ n * w
@@ -45,30 +45,39 @@ kept_more d before cells cells' w k t i x hi e kept j ij hj =
     let ne : k * w + j ≢ t * w + i = λ f. rows_apart w k t i j hi hj (λ (g : i ≡ j). omega arith) (sym f) in
     ap (λ l. get_or l (k * w + j) d) e ∙ get_or-set_other cells (t * w + i) (k * w + j) x d ne ∙ kept j (omega arith) hj
 
-pub kept_on : {X : Type 0} (d : X) (before cells cells' : List X) (w k i : ℕ) → cells' ≡ cells → Kept d before cells w k i → Kept d before cells' w k (i + 1)
-kept_on d before cells cells' w k i e kept j ij hj = ap (λ l. get_or l (k * w + j) d) e ∙ kept j (omega arith) hj
-
 module _ {S : Type 0} (o : Ops S) where
-  -- the cells of a changed row
-  pub changed-length : (row : List (Cell S)) (cr : Cell S) (at : ℕ) (cell : Cell S) → length (changed_over o row cr at cell) ≡ length row
-  changed-length row cr at cell = length-set (set row at cell) 0 cr ∙ length-set row at cell
+  -- the cells of a row with another current result, and with another variable
+  pub result-cell : (row : List (Cell S)) (x : Cell S) (i : ℕ) (d : Cell S) → i < length row → cond (eqb i 0) x (get_or row i d) ≡ get_or (with_result o row x) i d
+  result-cell row x i d h =
+      elim (cases_eq i 0) [
+        | inl z ↦ cond-true (eqb i 0) x (get_or row i d) (eq-eqb i 0 z) ∙ sym (ap (λ (n : ℕ). get_or (set row 0 x) n d) z ∙ get_or-set_same row 0 x d (omega arith))
+        | inr n ↦ cond-false (eqb i 0) x (get_or row i d) (ne_eqb i 0 n) ∙ sym (get_or-set_other row 0 i x d n)
+      ]
 
-  pub changed-cell : (row : List (Cell S)) (cr : Cell S) (at : ℕ) (cell : Cell S) (i : ℕ) (d : Cell S) → i < length row → changed_at o cr at cell i (get_or row i d) ≡ get_or (changed_over o row cr at cell) i d
-  changed-cell row cr at cell i d h =
-      let long = length-set row at cell in
+  pub variable-length : (row : List (Cell S)) (x : Cell S) (v : ℕ) (c : Cell S) → length (with_variable o row x v c) ≡ length row
+  variable-length row x v c = length-set (set row 0 x) (v + 1) c ∙ length-set row 0 x
+
+  pub variable-cell : (row : List (Cell S)) (x : Cell S) (v : ℕ) (c : Cell S) (i : ℕ) (d : Cell S) → i < length row → changed_at o x v c i (get_or row i d) ≡ get_or (with_variable o row x v c) i d
+  variable-cell row x v c i d h =
+      let long = length-set row 0 x in
+      let first = set row 0 x in
       elim (cases_eq i 0) [
         | inl z ↦
-            cond-true (eqb i 0) cr (cond (eqb i at) cell (get_or row i d)) (eq-eqb i 0 z)
-            ∙ sym (ap (λ (n : ℕ). get_or (set (set row at cell) 0 cr) n d) z ∙ get_or-set_same (set row at cell) 0 cr d (omega arith))
+            let ne : 0 ≢ v + 1 = λ e. omega arith in
+            cond-true (eqb i 0) x (cond (eqb (i - 1) v) c (get_or row i d)) (eq-eqb i 0 z)
+            ∙ sym (ap (λ (n : ℕ). get_or (set first (v + 1) c) n d) z ∙ get_or-set_other first (v + 1) 0 c d ne ∙ get_or-set_same row 0 x d (omega arith))
         | inr n ↦
-            cond-false (eqb i 0) cr (cond (eqb i at) cell (get_or row i d)) (ne_eqb i 0 n)
-            ∙ elim (cases_eq i at) [
+            cond-false (eqb i 0) x (cond (eqb (i - 1) v) c (get_or row i d)) (ne_eqb i 0 n)
+            ∙ elim (cases_eq (i - 1) v) [
               | inl e ↦
-                  cond-true (eqb i at) cell (get_or row i d) (eq-eqb i at e)
-                  ∙ sym (ap (λ (m : ℕ). get_or (set row at cell) m d) e ∙ get_or-set_same row at cell d (omega arith))
-              | inr m ↦ cond-false (eqb i at) cell (get_or row i d) (ne_eqb i at m) ∙ sym (get_or-set_other row at i cell d m)
+                  let at : i ≡ v + 1 = omega arith in
+                  cond-true (eqb (i - 1) v) c (get_or row i d) (eq-eqb (i - 1) v e)
+                  ∙ sym (ap (λ (m : ℕ). get_or (set first (v + 1) c) m d) at ∙ get_or-set_same first (v + 1) c d (omega arith))
+              | inr m ↦
+                  let ne : i ≢ v + 1 = λ e. m (omega arith) in
+                  cond-false (eqb (i - 1) v) c (get_or row i d) (ne_eqb (i - 1) v m)
+                  ∙ sym (get_or-set_other first (v + 1) i c d ne ∙ get_or-set_other row 0 i x d n)
             ]
-            ∙ sym (get_or-set_other (set row at cell) 0 i cr d n)
       ]
 
   -- the cells of the row that a return leaves
@@ -87,7 +96,3 @@ module _ {S : Type 0} (o : Ops S) where
             ∙ restart-within o vars row (i - 1) no_variable d (omega arith) (omega arith)
             ∙ ap (λ (m : ℕ). later (get_or row m d)) e)
       ]
-
--- the first of some rows
-pub first-row-fits : (n w m : ℕ) → 0 < n → m ≡ n * w → w ≤ m
-first-row-fits n w m h e = omega (arith, mul-le 1 w n w (omega arith) (omega arith), one-mul w)

@@ -1,5 +1,5 @@
 -- The ways on from a statement of a program lead to its statements.
-use Rattle.std.proofs.Common.{◌≡◌, ℕ, ◌+◌, ◌*◌, ◌<◌, ◌≤◌, true, false, cond, ◌||◌, List, length, get_or, is_some, Some, None, Option, sym, ap, ◌∙◌, inl, inr, arith}
+use Rattle.std.proofs.Common.{◌≡◌, ℕ, ◌+◌, ◌<◌, true, false, cond, ◌||◌, List, length, get_or, is_some, Some, None, Option, sym, ap, ◌∙◌, inl, inr, arith}
 use Rattle.std.proofs.lemmas.List.{get_or_past}
 use Rattle.std.proofs.lemmas.Bool.{cases_lt, cond_both}
 use Rattle.domain.specs.Domain.{Ops}
@@ -15,10 +15,8 @@ use Rattle.cells.specs.declared.cell.Cell.{Cell}
 use Rattle.cells.specs.Cells.{is_vacant}
 use Rattle.meaning.specs.declared.edge.Edge.{Edge}
 use Rattle.meaning.specs.declared.edge.Edge.TheVariants as way
-use Rattle.transfer.specs.Rows.{width}
 use Rattle.transfer.specs.Transfer.{left_of, right_of, carried, target_of}
 use Rattle.table.specs.Tables.{operation_at}
-use Rattle.fixpoint.proofs.Places.{row_fits}
 
 -- a label that is there is a statement
 label-there : (ss : List Statement) (t : ℕ) → is_some (label_name (get_or ss t no_statement)) ≡ true → t < length ss
@@ -61,13 +59,9 @@ module _ {S : Type 0} (o : Ops S) (vars : List Variable) where
         ]
     target-inside way.Jump e = jump-inside (length vars) ss k (operation_at ss k) h (formed.whole k h)
 
-    -- so the target's row is there
-    pub target_fits : (n : ℕ) → n ≡ length ss * width vars → (edge : Edge) → carried o vars row (operation_at ss k) edge ≡ Some next → target_of k (operation_at ss k) edge * width vars + width vars ≤ n
-    target_fits n size edge e = let f = row_fits (length ss) (width vars) (target_of k (operation_at ss k) edge) (target-inside edge e) in omega arith
-
     -- the same by the operation that was read
-    pub target-fits-by : (op : Operation) → op ≡ operation_at ss k → (n : ℕ) → n ≡ length ss * width vars → (edge : Edge) → carried o vars row op edge ≡ Some next → target_of k op edge * width vars + width vars ≤ n
-    target-fits-by op oe n size edge e =
-        let f = target_fits n size edge (ap (λ (p : Operation). carried o vars row p edge) (sym oe) ∙ e) in
-        let t : target_of k op edge * width vars ≡ target_of k (operation_at ss k) edge * width vars = ap (λ (p : Operation). target_of k p edge * width vars) oe in
+    pub target_inside : (op : Operation) → op ≡ operation_at ss k → (edge : Edge) → carried o vars row op edge ≡ Some next → target_of k op edge < length ss
+    target_inside op oe edge e =
+        let f = target-inside edge (ap (λ (p : Operation). carried o vars row p edge) (sym oe) ∙ e) in
+        let t : target_of k op edge ≡ target_of k (operation_at ss k) edge = ap (λ (p : Operation). target_of k p edge) oe in
         omega arith

@@ -28,8 +28,7 @@ impl SettleFault {
         ensures { result ≡ place_of self.now }
     {
         match self {
-            SettleFault::WrongSize(place) => *place,
-            SettleFault::NotSettled(place) => *place,
+            SettleFault::WrongSize(place) | SettleFault::NotSettled(place) => *place,
         }
     }
 }

@@ -8,7 +8,7 @@ ghost use Rattle.fixpoint.specs.Sweeps.{swept};
 ghost use Rattle.fixpoint.specs.Settling.{settled_from, settled_in, SettledTablesPass};
 
 use crate::fault::SettleFault;
-use crate::sweep::{sweep, widens};
+use crate::sweep::{Sweep, widens};
 use cells::cell::Cell;
 use domain::Domain;
 use program::Program;
@@ -28,7 +28,12 @@ fn settle_cells<D: Domain>(
     ensures answer { result ≡ (settled_from (swept D.ops (record { variables = variables.entry.now; statements = statements.now })) 0 sweeps cells.old).answer }
 {
     for done in 0..sweeps {
-        if !sweep(variables, statements, cells, widens(done + 1)) {
+        let sweep = Sweep {
+            variables,
+            statements,
+            widening: widens(done + 1),
+        };
+        if !sweep.over(cells) {
             return Ok(done + 1);
         }
     }

@@ -1,13 +1,10 @@
 // One sweep over a table: the start row, and then each row along its ways on.
-ghost use Rattle.std.specs.Prelude.{◌≡◌, ◌+◌, ◌*◌, ◌<◌, ◌≤◌, false, List, length, Some};
+ghost use Rattle.std.specs.Prelude.{◌≡◌, ◌*◌, ◌<◌, false, length};
 ghost use Rattle.reading.specs.Formed.{Formed};
-ghost use Rattle.cells.specs.declared.cell.Cell.{Cell as CellOf};
-ghost use Rattle.transfer.specs.Rows.{width as width_of, row_at, is_unreachable};
-ghost use Rattle.transfer.specs.Transfer.{carried as carried_row, target_of};
+ghost use Rattle.transfer.specs.Rows.{width, row_at, is_unreachable};
 ghost use Rattle.table.specs.Tables.{operation_at};
 ghost use Rattle.fixpoint.specs.Sweeps.{widens as widens_at, brought_on, brought_from, swept_with};
 
-use crate::bring::{bring_carried, bring_start};
 use crate::changes::is_new_unreachable;
 use cells::cell::Cell;
 use domain::Domain;
@@ -24,79 +21,71 @@ pub fn widens(sweep: u16) -> bool
     sweep >= 9
 }
 
-// Brings the row of a statement, one that can be reached, carried on one way on, to its target.
-fn bring_on<D: Domain>(
-    variables: &[Variable],
-    cells: &mut [Cell<D>],
-    number: usize,
-    operation: Operation,
-    edge: Edge,
-    widening: bool,
-) -> bool
-    requires few { length variables.now ≤ 64 }
-    requires short { number < 1024 }
-    requires reached { is_unreachable D.ops (row_at (width_of variables.now) cells.old number) ≡ false }
-    requires from { number * width_of variables.now + width_of variables.now ≤ length cells.old }
-    requires to { (next : List (CellOf D)) → carried_row D.ops variables.now (row_at (width_of variables.now) cells.old number) operation edge ≡ Some next → target_of number operation edge * width_of variables.now + width_of variables.now ≤ length cells.old }
-    ensures cells { cells.new ≡ (brought_on D.ops widening variables.now number operation edge cells.old).cells }
-    ensures changed { result ≡ (brought_on D.ops widening variables.now number operation edge cells.old).changed }
-{
-    let row = row_at(cells, variables.len() + 1, number);
-    match carry(variables, row, operation, edge) {
-        Some(carried) => {
-            if is_new_unreachable(carried, variables, row) {
-                false
-            } else {
-                let to = target(number, operation, edge);
-                bring_carried(variables, cells, number, to, carried, widening)
+// One sweep over a program's table, that joins or widens.
+// Its methods are lent the cells: a struct that held them would have each method promise that the program is left as it was.
+#[derive(Drop)]
+pub(crate) struct Sweep<'p> {
+    pub(crate) variables: &'p [Variable],
+    pub(crate) statements: &'p [Statement],
+    pub(crate) widening: bool,
+    ghost formed: { Formed variables.now statements.now },
+}
+
+impl<'p> Sweep<'p> {
+    // Brings the row of a statement, one that can be reached, carried on one way on, to its target.
+    fn bring_on<D: Domain>(
+        &self,
+        cells: &mut [Cell<D>],
+        number: usize,
+        operation: Operation,
+        edge: Edge,
+    ) -> bool
+        requires sized { length cells.old ≡ length self.now.statements.now * width self.now.variables.now }
+        requires inside { number < length self.now.statements.now }
+        requires read { operation ≡ operation_at self.now.statements.now number }
+        requires reached { is_unreachable D.ops (row_at (width self.now.variables.now) cells.old number) ≡ false }
+        ensures { brought_on D.ops self.now.widening self.now.variables.now number operation edge cells.old ≡ record { cells = cells.new; changed = result } }
+    {
+        let row = row_at(cells, self.variables.len() + 1, number);
+        match carry(self.variables, row, operation, edge) {
+            Some(carried) => {
+                if is_new_unreachable(carried, self.variables, row) {
+                    false
+                } else {
+                    self.bring_carried(cells, number, target(number, operation, edge), carried)
+                }
             }
+            None => false,
         }
-        None => false,
     }
-}
 
-// Brings the row of a statement along its ways on, fall-through first; an unreachable row is not carried.
-fn bring_from<D: Domain>(
-    variables: &[Variable],
-    statements: &[Statement],
-    cells: &mut [Cell<D>],
-    number: usize,
-    widening: bool,
-) -> bool
-    requires formed { Formed variables.now statements.now }
-    requires size { length cells.old ≡ length statements.now * width_of variables.now }
-    requires inside { number < length statements.now }
-    ensures cells { cells.new ≡ (brought_from D.ops widening variables.now number (operation_at statements.now number) cells.old).cells }
-    ensures changed { result ≡ (brought_from D.ops widening variables.now number (operation_at statements.now number) cells.old).changed }
-{
-    if is_unreachable(row_at(cells, variables.len() + 1, number)) {
-        return false;
+    // Brings the row of a statement along its ways on, fall-through first; an unreachable row is not carried.
+    fn bring_from<D: Domain>(&self, cells: &mut [Cell<D>], number: usize) -> bool
+        requires sized { length cells.old ≡ length self.now.statements.now * width self.now.variables.now }
+        requires inside { number < length self.now.statements.now }
+        ensures { brought_from D.ops self.now.widening self.now.variables.now number (operation_at self.now.statements.now number) cells.old ≡ record { cells = cells.new; changed = result } }
+    {
+        if is_unreachable(row_at(cells, self.variables.len() + 1, number)) {
+            return false;
+        }
+        let operation = operation_at(self.statements, number);
+        let fell = self.bring_on(cells, number, operation, Edge::Fall);
+        let jumped = self.bring_on(cells, number, operation, Edge::Jump);
+        fell | jumped
     }
-    let operation = operation_at(statements, number);
-    let fell = bring_on(variables, cells, number, operation, Edge::Fall, widening);
-    let jumped = bring_on(variables, cells, number, operation, Edge::Jump, widening);
-    fell | jumped
-}
 
-// One sweep: says whether a cell did not take in what came to it.
-pub(crate) fn sweep<D: Domain>(
-    variables: &[Variable],
-    statements: &[Statement],
-    cells: &mut [Cell<D>],
-    widening: bool,
-) -> bool
-    requires formed { Formed variables.now statements.now }
-    requires size { length cells.old ≡ length statements.now * width_of variables.now }
-    ensures cells { cells.new ≡ (swept_with D.ops widening variables.now statements.now cells.old).cells }
-    ensures changed { result ≡ (swept_with D.ops widening variables.now statements.now cells.old).changed }
-{
-    if statements.len() == 0 {
-        return false;
+    // Sweeps once, and says whether a cell did not take in what came to it.
+    pub(crate) fn over<D: Domain>(&self, cells: &mut [Cell<D>]) -> bool
+        requires sized { length cells.old ≡ length self.now.statements.now * width self.now.variables.now }
+        ensures { swept_with D.ops self.now.widening self.now.variables.now self.now.statements.now cells.old ≡ record { cells = cells.new; changed = result } }
+    {
+        if self.statements.is_empty() {
+            return false;
+        }
+        let mut changed = self.bring_start(cells);
+        for number in 0..self.statements.len() {
+            changed |= self.bring_from(cells, number);
+        }
+        changed
     }
-    let mut changed = bring_start(variables, cells, widening);
-    for number in 0..statements.len() {
-        let grew = bring_from(variables, statements, cells, number, widening);
-        changed = changed | grew;
-    }
-    changed
 }
