@@ -1,6 +1,7 @@
 -- A program as plain data: the records that it has in use, and all that it keeps.
 use Rattle.std.specs.List.{enumerate_from}
-use Rattle.std.specs.Prelude.{map, slice_get, filter, ◌≡◌, ℕ, ◌+◌, ◌-◌, Bool, true, false, cond, List, [], ◌∷◌, get_or, take, ℤ, Some, None, Ok, Err, Option, Result, ◌==◌, int_lt, slice_index_or, slice_set}
+use Rattle.std.specs.Result.{result_unwrap_or, result_err}
+use Rattle.std.specs.Prelude.{◌≡◌, ℕ, ◌≤◌, Bool, true, false, cond, List, length, get_or, take, map, filter, ℤ, Some, None, Ok, Err, Option, Result, int_lt, slice_get, slice_index_or, slice_set}
 use Rattle.syntax.specs.declared.record.Class.{Class}
 use Rattle.syntax.specs.declared.record.Class.TheVariants.{Local, Input, Output}
 use Rattle.syntax.specs.declared.record.Constant.{Constant}
@@ -14,15 +15,13 @@ use Rattle.reading.specs.declared.fault.RangeFault.TheVariants.{NoIntInput, LowA
 use Rattle.reading.specs.declared.draft.Extent.{Extent}
 use Rattle.reading.specs.Reading.{Reading}
 use Rattle.reading.specs.FirstFault.{HasFault, First}
+use Rattle.reading.specs.Formed.{Formed}
 use Rattle.program.specs.declared.lent.Program.{Program}
 
 -- the records that a program has in use
 pub record Code : Type 0 where
   pub variables : List Variable
   pub statements : List Statement
-
-abbrev pub code : Program → Code
-code p = record { variables = take p.variable_count p.variables.now; statements = take p.statement_count p.statements.now }
 
 -- all that a program keeps: the caller's records, how many are in use, and why its text was refused
 pub record Memory : Type 0 where
@@ -32,19 +31,31 @@ pub record Memory : Type 0 where
   pub variable_count : ℕ
   pub statement_count : ℕ
 
-abbrev pub memory : Program → Memory
-memory p = record {
-  variables = p.variables.now;
-  statements = p.statements.now;
-  fault = p.fault;
-  variable_count = p.variable_count;
-  statement_count = p.statement_count;
-}
+-- how many records are in use; none after a refusal
+abbrev pub extent_in : Result Extent ProgramFault → Extent
+extent_in r = result_unwrap_or r (record { variables = 0; statements = 0 })
+
+-- so many records are there, and they make a program
+pub record InUse (e : Extent) (vs : List Variable) (ss : List Statement) : Type 0 where
+  pub variables_there : e.variables ≤ length vs
+  pub statements_there : e.statements ≤ length ss
+  pub formed : Formed (take e.variables vs) (take e.statements ss)
 
 -- what reading a text leaves
 abbrev pub memory_by : Result Extent ProgramFault → List Variable → List Statement → Memory
-memory_by (Ok e) vs ss = record { variables = vs; statements = ss; fault = None; variable_count = e.variables; statement_count = e.statements }
-memory_by (Err f) vs ss = record { variables = vs; statements = ss; fault = Some f; variable_count = 0; statement_count = 0 }
+memory_by r vs ss = record {
+  variables = vs;
+  statements = ss;
+  fault = result_err r;
+  variable_count = (extent_in r).variables;
+  statement_count = (extent_in r).statements;
+}
+
+abbrev pub memory : Program → Memory
+memory p = memory_by p.outcome p.variables.now p.statements.now
+
+abbrev pub code : Program → Code
+code p = record { variables = take (memory p).variable_count p.variables.now; statements = take (memory p).statement_count p.statements.now }
 
 abbrev pub read_memory : Reading → Memory
 read_memory r = memory_by r.answer r.variables r.statements

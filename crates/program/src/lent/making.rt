@@ -20,25 +20,11 @@ impl<'r> Program<'r> {
         ensures variables { result.variables.ghost_name ≡ variables.entry.ghost_name }
         ensures statements { result.statements.ghost_name ≡ statements.entry.ghost_name }
     {
-        match fill(text, variables, statements) {
-            Ok(extent) => {
-                let variable_count = extent.variables;
-                let statement_count = extent.statements;
-                Program {
-                    variables,
-                    statements,
-                    fault: None,
-                    variable_count,
-                    statement_count,
-                }
-            }
-            Err(fault) => Program {
-                variables,
-                statements,
-                fault: Some(fault),
-                variable_count: 0,
-                statement_count: 0,
-            },
+        let outcome = fill(text, variables, statements);
+        Program {
+            variables,
+            statements,
+            outcome,
         }
     }
 
@@ -46,9 +32,6 @@ impl<'r> Program<'r> {
     pub fn outcome(&self) -> Result<(), ProgramFault>
         ensures { result ≡ outcome_of (memory self.now).fault }
     {
-        match self.fault {
-            None => Ok(()),
-            Some(fault) => Err(fault),
-        }
+        self.outcome.map(|_| ())
     }
 }

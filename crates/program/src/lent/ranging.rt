@@ -12,7 +12,7 @@ impl<'r> Program<'r> {
     // Which variable is the input at a position.
     fn input(&self, position: usize) -> Option<usize>
         ensures is { result ≡ input_at (memory self.now) position }
-        ensures within { IfSome result (λ i. i < self.now.variable_count) }
+        ensures within { IfSome result (λ i. i < (memory self.now).variable_count) }
     {
         input_at(self.variables(), position)
     }
@@ -23,20 +23,18 @@ impl<'r> Program<'r> {
         ensures variables { self.new.variables.ghost_name ≡ self.old.variables.ghost_name }
         ensures statements { self.new.statements.ghost_name ≡ self.old.statements.ghost_name }
     {
-        match self.input(position) {
-            None => Err(RangeFault::NoIntInput(position)),
-            Some(index) => {
-                let mut variable = self.variables[index];
-                if !is_int(variable.declaration().initial) {
-                    return Err(RangeFault::NoIntInput(position));
-                }
-                if low > high {
-                    return Err(RangeFault::LowAboveHigh(position));
-                }
-                variable.set_range(Range { low, high });
-                self.variables[index] = variable;
-                Ok(())
-            }
+        let index = self
+            .input(position)
+            .ok_or(RangeFault::NoIntInput(position))?;
+        let mut variable = self.variables[index];
+        if !is_int(variable.declaration().initial) {
+            return Err(RangeFault::NoIntInput(position));
         }
+        if low > high {
+            return Err(RangeFault::LowAboveHigh(position));
+        }
+        variable.set_range(Range { low, high });
+        self.variables[index] = variable;
+        Ok(())
     }
 }
