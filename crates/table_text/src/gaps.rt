@@ -29,7 +29,7 @@ fn blanks(bytes: &[u8]) -> usize
     bytes.iter().take_while(|b| is_blank(**b)).count()
 }
 
-// How many bytes at the front are none.
+// How many bytes at the front are no blanks.
 fn word_length(bytes: &[u8]) -> usize
     ensures is { result ≡ prefix_len (λ b. not (blank b)) bytes.now }
     ensures within { result ≤ length bytes.now }
