@@ -1,21 +1,10 @@
--- One turn over the bytes of a word, and over the words of a line.
-use Rattle.std.proofs.Common.{◌≡◌, ℕ, ◌+◌, ◌<◌, ◌≤◌, true, false, cond, List, length, get_or, drop, Ok, Err, string_bytes, String, sym, ap, ◌∙◌}
+-- One turn over the words of a line.
+use Rattle.std.proofs.Common.{◌≡◌, ℕ, ◌+◌, ◌<◌, ◌≤◌, List, length, get_or, drop, Ok, Err, string_bytes, String, sym, ap, ◌∙◌}
 use Rattle.std.proofs.lemmas.List.{at_drop_more, at_drop_all}
-use Rattle.std.specs.Char.{is_ascii_digit}
 use Rattle.std.specs.declared.alloc.Global.{Global}
 use Rattle.options.specs.declared.request.WrongUse.{WrongUse}
 use Rattle.options.specs.declared.request.Progress.{Progress}
-use Rattle.options.specs.Line.{digits_only, parsed_from, taken, go_on, finished}
-
-module _ (word : List ℕ) (i : ℕ) where
-  pub digit-more : i < length word → is_ascii_digit (get_or word i 0) ≡ true → digits_only (drop i word) ≡ digits_only (drop (i + 1) word)
-  digit-more h e = at_drop_more digits_only word i 0 h ∙ ap (λ t. cond t (digits_only (drop (i + 1) word)) false) e
-
-  pub digit-none : i < length word → is_ascii_digit (get_or word i 0) ≡ false → digits_only (drop i word) ≡ false
-  digit-none h e = at_drop_more digits_only word i 0 h ∙ ap (λ t. cond t (digits_only (drop (i + 1) word)) false) e
-
-  pub digit-all : length word ≤ i → digits_only (drop i word) ≡ true
-  digit-all h = at_drop_all digits_only word i h
+use Rattle.options.specs.Line.{parsed_from, taken, go_on, finished}
 
 module _ (words : List (String Global)) (i : ℕ) (p : Progress) where
   module _ (w : String Global) (h : i < length words) (is : w ≡ get_or words i w) where

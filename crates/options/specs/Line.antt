@@ -1,9 +1,8 @@
 -- What the words of a command line ask for.
 use Rattle.std.specs.Prelude.{ℕ, ◌+◌, Bool, true, false, cond, ◌&&◌, List, [], ◌∷◌, length, Some, None, Ok, Err, string_bytes, codes, Option, Result, String, ◌==◌, nat_le, nat_lt}
-use Rattle.std.specs.Char.{is_ascii_digit}
 use Rattle.std.specs.Str.{bytes_eq}
 use Rattle.std.specs.declared.alloc.Global.{Global}
-use Rattle.numbers.specs.Number.{decimal}
+use Rattle.numbers.specs.Number.{decimal, digits_only}
 use Rattle.options.specs.declared.request.Job.{Job}
 use Rattle.options.specs.declared.request.Job.TheVariants as job
 use Rattle.options.specs.declared.request.SetKind.{SetKind}
@@ -46,11 +45,6 @@ abbrev pub most_of : Limit → ℕ
 most_of Statements = 1024
 most_of Variables = 64
 most_of Sweeps = 65535
-
--- every byte is a digit
-abbrev pub digits_only : List ℕ → Bool
-digits_only [] = true
-digits_only (b ∷ rest) = cond (is_ascii_digit b) (digits_only rest) false
 
 -- the value of an option: digits, at least one, and not above its most
 abbrev pub value_for : Limit → List ℕ → Option ℕ

@@ -1,6 +1,6 @@
 // How the words of a command line make a request.
 ghost use Rattle.std.specs.Prelude.{◌≡◌};
-ghost use Rattle.options.specs.Line.{most_files, with_number, flag_taken, file_taken, taken, finished, parsed};
+ghost use Rattle.options.specs.Line.{most_files, with_number, flag_named, flag_taken, file_taken, taken, finished, parsed};
 
 use crate::names::{flag_named, is_option, job_named, kind_named};
 use crate::request::{Flag, Job, Limit, Options, Progress, Request, SetKind, Stage, WrongUse};
@@ -33,38 +33,35 @@ fn most_files(job: Job) -> usize
 fn with_number(options: Options, limit: Limit, value: usize) -> Options
     ensures { result ≡ with_number options limit value }
 {
-    let mut changed = options;
     match limit {
-        Limit::Statements => changed.statements = value,
-        Limit::Variables => changed.variables = value,
-        Limit::Sweeps => changed.sweeps = value,
+        Limit::Statements => Options {
+            statements: value,
+            ..options
+        },
+        Limit::Variables => Options {
+            variables: value,
+            ..options
+        },
+        Limit::Sweeps => Options {
+            sweeps: value,
+            ..options
+        },
     }
-    changed
 }
 
 // A word that begins with two hyphens.
-fn take_flag(request: Request, flag: Option<Flag>) -> Result<Progress, WrongUse>
-    ensures { result ≡ flag_taken request flag }
+fn take_flag(mut request: Request, word: &[u8]) -> Result<Progress, WrongUse>
+    ensures { result ≡ flag_taken request (flag_named word.now) }
 {
-    let mut changed = request;
-    match flag {
-        None => Err(WrongUse::UnknownOption),
-        Some(Flag::Number(limit)) => Ok(Progress {
-            stage: Stage::Number(limit),
-            request,
-        }),
-        Some(Flag::Kind) => Ok(Progress {
-            stage: Stage::Kind,
-            request,
-        }),
-        Some(Flag::Explain) => {
-            changed.options.explain = true;
-            Ok(Progress {
-                stage: Stage::Options,
-                request: changed,
-            })
+    let stage = match flag_named(word).ok_or(WrongUse::UnknownOption)? {
+        Flag::Number(limit) => Stage::Number(limit),
+        Flag::Kind => Stage::Kind,
+        Flag::Explain => {
+            request.options.explain = true;
+            Stage::Options
         }
-    }
+    };
+    Ok(Progress { stage, request })
 }
 
 // Any other word where a file may come.
@@ -72,11 +69,12 @@ fn take_file(request: Request) -> Result<Progress, WrongUse>
     ensures { result ≡ file_taken request }
 {
     if request.files < most_files(request.job) {
-        let mut changed = request;
-        changed.files = request.files + 1;
         Ok(Progress {
             stage: Stage::Files,
-            request: changed,
+            request: Request {
+                files: request.files + 1,
+                ..request
+            },
         })
     } else {
         Err(WrongUse::TooManyFiles)
@@ -87,41 +85,21 @@ fn take_file(request: Request) -> Result<Progress, WrongUse>
 fn take(progress: Progress, word: &[u8]) -> Result<Progress, WrongUse>
     ensures { result ≡ taken progress word.now }
 {
-    let mut changed = progress.request;
+    let mut request = progress.request;
     match progress.stage {
-        Stage::Begin => {
-            if is_option(word) {
-                return take_flag(changed, flag_named(word));
-            }
-            match job_named(word) {
-                Some(job) => changed.job = job,
-                None => return Err(WrongUse::UnknownJob),
-            }
+        Stage::Begin | Stage::Options if is_option(word) => return take_flag(request, word),
+        Stage::Files if is_option(word) => return Err(WrongUse::OptionAfterFile),
+        Stage::Options | Stage::Files => return take_file(request),
+        Stage::Begin => request.job = job_named(word).ok_or(WrongUse::UnknownJob)?,
+        Stage::Number(limit) => {
+            let value = value_for(limit, word).ok_or(WrongUse::BadValue)?;
+            request.options = with_number(request.options, limit, value);
         }
-        Stage::Options => {
-            if is_option(word) {
-                return take_flag(changed, flag_named(word));
-            }
-            return take_file(changed);
-        }
-        Stage::Number(limit) => match value_for(limit, word) {
-            Some(value) => changed.options = with_number(changed.options, limit, value),
-            None => return Err(WrongUse::BadValue),
-        },
-        Stage::Kind => match kind_named(word) {
-            Some(kind) => changed.options.kind = kind,
-            None => return Err(WrongUse::BadValue),
-        },
-        Stage::Files => {
-            if is_option(word) {
-                return Err(WrongUse::OptionAfterFile);
-            }
-            return take_file(changed);
-        }
+        Stage::Kind => request.options.kind = kind_named(word).ok_or(WrongUse::BadValue)?,
     }
     Ok(Progress {
         stage: Stage::Options,
-        request: changed,
+        request,
     })
 }
 
@@ -130,8 +108,7 @@ fn finish(progress: Progress) -> Result<Request, WrongUse>
     ensures { result ≡ finished progress }
 {
     match progress.stage {
-        Stage::Number(_) => Err(WrongUse::NoValue),
-        Stage::Kind => Err(WrongUse::NoValue),
+        Stage::Number(_) | Stage::Kind => Err(WrongUse::NoValue),
         _ => Ok(progress.request),
     }
 }

@@ -1,6 +1,5 @@
 -- A name in two tables of words, one after the other.
-use Rattle.std.proofs.Common.{◌≡◌, ℕ, ◌+◌, ◌<◌, Bool, true, false, cond, List, [], ◌∷◌, ◌++◌, length, get_or, drop, Some, None, MatchOption, Option, refl, ap, ◌∙◌, arith}
-use Rattle.std.proofs.lemmas.List.{drop_more, drop_all}
+use Rattle.std.proofs.Common.{◌≡◌, ℕ, Bool, true, false, cond, List, [], ◌∷◌, ◌++◌, Some, None, MatchOption, Option, refl, ap, ◌∙◌}
 use Rattle.std.specs.Option.{option_or}
 use Rattle.syntax.specs.declared.token.Token.{Token}
 use Rattle.syntax.specs.Names.{same_name}
@@ -29,12 +28,3 @@ among_four word a b c d =
 pub either : {P : Type 0} (first second answer : Option Token) → (P → answer ≡ second) → MatchOption first P (λ t. answer ≡ Some t) → answer ≡ option_or first second
 either None second answer else h = else h
 either (Some t) second answer else h = h
-
--- from a place on, the bytes of a text are those of a word, and it ends with them
-abbrev pub SpellsFrom : List ℕ → ℕ → List ℕ → Type 0
-SpellsFrom bytes i [] = length bytes ≡ i
-SpellsFrom bytes i (b ∷ word) = (i < length bytes) × (get_or bytes i 0 ≡ b) × SpellsFrom bytes (i + 1) word
-
-pub spells : (bytes : List ℕ) (i : ℕ) (word : List ℕ) → SpellsFrom bytes i word → drop i bytes ≡ word
-spells bytes i [] h = drop_all i bytes (omega arith)
-spells bytes i (b ∷ word) h = drop_more bytes i 0 h.0 ∙ ap (λ x. x ∷ drop (i + 1) bytes) h.1 ∙ ap (λ l. b ∷ l) (spells bytes (i + 1) word h.2)

@@ -30,63 +30,67 @@ is_row row (Some (pos n)) = n == row
 is_row row (Some (negsuc n)) = false
 
 -- a line begins with its number, and there is none after the last
-abbrev pub row_taken : Size → Progress → ℕ → List ℕ → Result Progress TableFault
-row_taken s p place word = cond (nat_lt p.row s.rows && is_row p.row (numeral word)) (Ok (record { stage = Mark; row = p.row + 1; left = 0; index = p.index })) (Err (Misfit place))
+abbrev pub row_taken : Progress → ℕ → List ℕ → Result Progress TableFault
+row_taken p place word = cond (nat_lt p.row p.size.rows && is_row p.row (numeral word)) (Ok (record { size = p.size; stage = Mark; row = p.row + 1; index = p.index })) (Err (Misfit place))
+
+-- where a line stands that still wants so many cells
+abbrev pub with_left : ℕ → Stage
+with_left left = cond (nat_lt 0 left) (Cell left) Number
 
 -- any word may be the mark word; the line's cells follow
-abbrev pub mark_taken : Size → Progress → Progress
-mark_taken s p = record { stage = cond (nat_lt 0 s.width) Cell Number; row = p.row; left = s.width; index = p.index }
+abbrev pub mark_taken : Progress → Progress
+mark_taken p = record { size = p.size; stage = with_left p.size.width; row = p.row; index = p.index }
 
 -- the next place behind an index, where the caller has so many cells; a cell beyond them is dropped
 abbrev pub next_index : ℕ → ℕ → ℕ
 next_index index most = cond (nat_lt index most) (index + 1) index
 
 -- one cell less is to come in the line
-abbrev pub after_cell : Progress → ℕ → Progress
-after_cell p index = record { stage = cond (nat_lt 1 p.left) Cell Number; row = p.row; left = p.left - 1; index = index }
+abbrev pub after_cell : Progress → ℕ → ℕ → Progress
+after_cell p left index = record { size = p.size; stage = with_left (left - 1); row = p.row; index = index }
 
 -- `settled` behind the beginning
 abbrev pub begun : Progress → Progress
-begun p = record { stage = Heading; row = p.row; left = p.left; index = p.index }
+begun p = record { size = p.size; stage = Heading; row = p.row; index = p.index }
 
 -- where the text has to come to an end: behind the last line
-abbrev pub ended_at : Stage → Size → Progress → ℕ → Result (Unit {0}) TableFault
-ended_at Begin s p place = cond (p.row == s.rows) (Ok tt) (Err (Misfit place))
-ended_at Heading s p place = cond (p.row == s.rows) (Ok tt) (Err (Misfit place))
-ended_at Number s p place = cond (p.row == s.rows) (Ok tt) (Err (Misfit place))
-ended_at Mark s p place = Err (Misfit place)
-ended_at Cell s p place = Err (Misfit place)
+abbrev pub ended_at : Stage → Progress → ℕ → Result (Unit {0}) TableFault
+ended_at Begin p place = cond (p.row == p.size.rows) (Ok tt) (Err (Misfit place))
+ended_at Heading p place = cond (p.row == p.size.rows) (Ok tt) (Err (Misfit place))
+ended_at Number p place = cond (p.row == p.size.rows) (Ok tt) (Err (Misfit place))
+ended_at Mark p place = Err (Misfit place)
+ended_at (Cell left) p place = Err (Misfit place)
 
-abbrev pub ended : Size → Progress → ℕ → Result (Unit {0}) TableFault
-ended s p place = ended_at p.stage s p place
+abbrev pub ended : Progress → ℕ → Result (Unit {0}) TableFault
+ended p place = ended_at p.stage p place
 
 -- before the first word
-abbrev pub start : Progress
-start = record { stage = Begin; row = 0; left = 0; index = 0 }
+abbrev pub start : Size → Progress
+start s = record { size = s; stage = Begin; row = 0; index = 0 }
 
 module _ {S : Type 0} (o : Ops S) (reading : List ℕ → Option S) where
-  abbrev pub entry_taken : Progress → ℕ → Option (Entry S) → List (Entry S) → Outcome Progress S
-  entry_taken p place None cs = outcome (Err (Misfit place)) cs
-  entry_taken p place (Some c) cs = outcome (Ok (after_cell p (next_index p.index (length cs)))) (slice_set cs p.index c)
+  abbrev pub entry_taken : Progress → ℕ → ℕ → Option (Entry S) → List (Entry S) → Outcome Progress S
+  entry_taken p left place None cs = outcome (Err (Misfit place)) cs
+  entry_taken p left place (Some c) cs = outcome (Ok (after_cell p left (next_index p.index (length cs)))) (slice_set cs p.index c)
 
   -- a cell goes to the next place of the caller's cells
-  abbrev pub cell_taken : Progress → ℕ → List ℕ → List (Entry S) → Outcome Progress S
-  cell_taken p place word cs = entry_taken p place (read_cell o reading word) cs
+  abbrev pub cell_taken : Progress → ℕ → ℕ → List ℕ → List (Entry S) → Outcome Progress S
+  cell_taken p left place word cs = entry_taken p left place (read_cell o reading word) cs
 
   -- what one word more does, in the line of the word before it (false) or in a new one (true)
-  abbrev pub taken_at : Stage → Bool → Size → Progress → ℕ → List ℕ → List (Entry S) → Outcome Progress S
-  taken_at Begin line s p place word cs = outcome (cond (bytes_eq word (codes "settled")) (Ok (begun p)) (row_taken s p place word)) cs
-  taken_at Heading false s p place word cs = outcome (Ok p) cs
-  taken_at Heading true s p place word cs = outcome (row_taken s p place word) cs
-  taken_at Number true s p place word cs = outcome (row_taken s p place word) cs
-  taken_at Number false s p place word cs = outcome (Err (Misfit place)) cs
-  taken_at Mark false s p place word cs = outcome (Ok (mark_taken s p)) cs
-  taken_at Mark true s p place word cs = outcome (Err (Misfit place)) cs
-  taken_at Cell false s p place word cs = cell_taken p place word cs
-  taken_at Cell true s p place word cs = outcome (Err (Misfit place)) cs
+  abbrev pub taken_at : Stage → Bool → Progress → ℕ → List ℕ → List (Entry S) → Outcome Progress S
+  taken_at Begin line p place word cs = outcome (cond (bytes_eq word (codes "settled")) (Ok (begun p)) (row_taken p place word)) cs
+  taken_at Heading false p place word cs = outcome (Ok p) cs
+  taken_at Heading true p place word cs = outcome (row_taken p place word) cs
+  taken_at Number true p place word cs = outcome (row_taken p place word) cs
+  taken_at Number false p place word cs = outcome (Err (Misfit place)) cs
+  taken_at Mark false p place word cs = outcome (Ok (mark_taken p)) cs
+  taken_at Mark true p place word cs = outcome (Err (Misfit place)) cs
+  taken_at (Cell left) false p place word cs = cell_taken p left place word cs
+  taken_at (Cell left) true p place word cs = outcome (Err (Misfit place)) cs
 
-  abbrev pub word_taken : Size → Progress → Bool → ℕ → List ℕ → List (Entry S) → Outcome Progress S
-  word_taken s p line place word cs = taken_at p.stage line s p place word cs
+  abbrev pub word_taken : Progress → Bool → ℕ → List ℕ → List (Entry S) → Outcome Progress S
+  word_taken p line place word cs = taken_at p.stage line p place word cs
 
   -- what follows a word; a fault ends the text
   abbrev pub further : Result Progress TableFault → List (Entry S) → (Progress → List (Entry S) → Outcome (Unit {0}) S) → Outcome (Unit {0}) S
@@ -94,20 +98,20 @@ module _ {S : Type 0} (o : Ops S) (reading : List ℕ → Option S) where
   further (Ok p) cs next = next p cs
 
   -- the word behind a gap
-  abbrev pub taken_behind : List ℕ → Size → Gap → Progress → List (Entry S) → Outcome Progress S
-  taken_behind text s g p cs = word_taken s p g.line g.end (between g.end (word_end text g.end) text) cs
+  abbrev pub taken_behind : List ℕ → Gap → Progress → List (Entry S) → Outcome Progress S
+  taken_behind text g p cs = word_taken p g.line g.end (between g.end (word_end text g.end) text) cs
 
   -- the effect of the words behind a gap, of which there are fewer than n
-  abbrev pub taken_from : ℕ → List ℕ → Size → Gap → Progress → List (Entry S) → Outcome (Unit {0}) S
-  taken_from zero text s g p cs = outcome (ended s p (length text)) cs
-  taken_from (suc n) text s g p cs =
+  abbrev pub taken_from : ℕ → List ℕ → Gap → Progress → List (Entry S) → Outcome (Unit {0}) S
+  taken_from zero text g p cs = outcome (ended p (length text)) cs
+  taken_from (suc n) text g p cs =
       cond (nat_lt g.end (length text))
-      (further (taken_behind text s g p cs).answer (taken_behind text s g p cs).after (λ q ds. taken_from n text s (gap_from text (word_end text g.end)) q ds))
-      (outcome (ended s p (length text)) cs)
+      (further (taken_behind text g p cs).answer (taken_behind text g p cs).after (λ q ds. taken_from n text (gap_from text (word_end text g.end)) q ds))
+      (outcome (ended p (length text)) cs)
 
   -- the effect of all words of a text; each takes a byte at least
   abbrev pub all_taken : List ℕ → Size → List (Entry S) → Outcome (Unit {0}) S
-  all_taken text s cs = taken_from (length text + 1) text s (gap_from text 0) start cs
+  all_taken text s cs = taken_from (length text + 1) text (gap_from text 0) (start s) cs
 
   -- what the text of a table does to the caller's cells: one above 1,048,576 bytes does nothing
   abbrev pub table_read : List ℕ → ℕ → ℕ → List (Entry S) → Outcome (Unit {0}) S

@@ -1,7 +1,10 @@
 // Where the words of a table begin and end.
-ghost use Rattle.std.specs.Prelude.{◌≡◌, ◌<◌, ◌≤◌, length};
+ghost use Rattle.std.specs.Prelude.{◌≡◌, ◌==◌, ◌<◌, ◌≤◌, not, length};
+ghost use Rattle.std.specs.List.{prefix_len, list_any};
 ghost use Rattle.words.specs.Bytes.{blank};
 ghost use Rattle.table_text.specs.Gaps.{gap_from, word_end};
+
+use words::is_blank;
 
 // The blanks before a word: where they end, and whether a line ends among them.
 #[derive(Clone, Copy)]
@@ -10,10 +13,35 @@ pub struct Gap {
     pub line: bool,
 }
 
-fn is_blank(b: u8) -> bool
-    ensures { result ≡ blank b }
+// A word: where it begins, whether it is the first of its line, and its bytes.
+#[derive(Clone, Copy)]
+pub struct Word<'t> {
+    pub place: usize,
+    pub new_line: bool,
+    pub bytes: &'t [u8],
+}
+
+// How many bytes at the front are blanks.
+fn blanks(bytes: &[u8]) -> usize
+    ensures is { result ≡ prefix_len blank bytes.now }
+    ensures within { result ≤ length bytes.now }
 {
-    b == b' ' || b == b'\t' || b == b'\r' || b == b'\n'
+    bytes.iter().take_while(|b| is_blank(**b)).count()
+}
+
+// How many bytes at the front are no blanks.
+fn word_length(bytes: &[u8]) -> usize
+    ensures is { result ≡ prefix_len (λ b. not (blank b)) bytes.now }
+    ensures within { result ≤ length bytes.now }
+{
+    bytes.iter().take_while(|b| !is_blank(**b)).count()
+}
+
+// Whether a line ends among these bytes.
+fn ends_line(bytes: &[u8]) -> bool
+    ensures { result ≡ list_any (λ b. b == 10) bytes.now }
+{
+    bytes.iter().any(|b| *b == b'\n')
 }
 
 // The blanks from a place on.
@@ -22,13 +50,11 @@ pub(crate) fn gap_from(text: &[u8], place: usize) -> Gap
     ensures is { result ≡ gap_from text.now place }
     ensures within { (place ≤ result.end) × (result.end ≤ length text.now) }
 {
-    let mut end = place;
-    let mut line = false;
-    while end < text.len() && is_blank(text[end]) {
-        line = line | (text[end] == b'\n');
-        end += 1;
+    let end = place + blanks(&text[place..]);
+    Gap {
+        end,
+        line: ends_line(&text[place..end]),
     }
-    Gap { end, line }
 }
 
 // The place after the word whose first byte stands at `place`.
@@ -37,9 +63,6 @@ pub(crate) fn word_end(text: &[u8], place: usize) -> usize
     ensures is { result ≡ word_end text.now place }
     ensures within { (place < result) × (result ≤ length text.now) }
 {
-    let mut end = place + 1;
-    while end < text.len() && !is_blank(text[end]) {
-        end += 1;
-    }
-    end
+    let behind = place + 1;
+    behind + word_length(&text[behind..])
 }

@@ -10,17 +10,8 @@ pub enum Stage {
     Number,
     // behind the number of a line
     Mark,
-    // where a cell has to come
-    Cell,
-}
-
-// How many lines have begun, how many cells the last one still wants, and how many cells have been read in all.
-#[derive(Clone, Copy)]
-pub struct Progress {
-    pub stage: Stage,
-    pub row: usize,
-    pub left: usize,
-    pub index: usize,
+    // where a cell has to come, as the first of so many that the line still wants
+    Cell(usize),
 }
 
 // How many lines a table has, and how many cells each of them.
@@ -28,4 +19,13 @@ pub struct Progress {
 pub struct Size {
     pub rows: usize,
     pub width: usize,
+}
+
+// The size of the table, how many lines have begun, and how many cells have been read in all.
+#[derive(Clone, Copy)]
+pub struct Progress {
+    pub size: Size,
+    pub stage: Stage,
+    pub row: usize,
+    pub index: usize,
 }

@@ -1,60 +1,21 @@
 // What each word of a table does.
 ghost use Rattle.std.specs.Prelude.{◌≡◌, length, slice_set};
 ghost use Rattle.notation.specs.Numerals.{numeral};
-ghost use Rattle.table_text.specs.Table.{is_row, row_taken, mark_taken, next_index, after_cell, cell_taken, word_taken, TookAs};
+ghost use Rattle.table_text.specs.Table.{is_row, row_taken, mark_taken, next_index, with_left, cell_taken, word_taken, ended, TookAs};
 
 use crate::fault::TableFault;
-use crate::progress::{Progress, Size, Stage};
+use crate::gaps::Word;
+use crate::progress::{Progress, Stage};
 use cells::cell::Cell;
 use notation::Notation;
 use notation::cell::read_cell;
-use notation::numerals::{number_in, same};
+use notation::numerals::number_in;
 
 // Whether a word is the number of a line.
 fn is_row(row: usize, word: &[u8]) -> bool
     ensures { result ≡ is_row row (numeral word.now) }
 {
-    match number_in(word) {
-        Some(number) => number >= 0 && number as usize == row,
-        None => false,
-    }
-}
-
-// The word that begins a line.
-fn take_row(
-    size: Size,
-    progress: Progress,
-    place: usize,
-    word: &[u8],
-) -> Result<Progress, TableFault>
-    ensures { result ≡ row_taken size progress place word.now }
-{
-    if progress.row < size.rows && is_row(progress.row, word) {
-        Ok(Progress {
-            stage: Stage::Mark,
-            row: progress.row + 1,
-            left: 0,
-            index: progress.index,
-        })
-    } else {
-        Err(TableFault::Misfit(place))
-    }
-}
-
-// Any word behind the number of a line: its cells are to come.
-fn take_mark(size: Size, progress: Progress) -> Progress
-    ensures { result ≡ mark_taken size progress }
-{
-    Progress {
-        stage: if size.width > 0 {
-            Stage::Cell
-        } else {
-            Stage::Number
-        },
-        row: progress.row,
-        left: size.width,
-        index: progress.index,
-    }
+    number_in(word).is_some_and(|number| number >= 0 && number as usize == row)
 }
 
 // Puts a cell at its place, and answers the next place; one beyond the caller's cells is dropped.
@@ -70,65 +31,88 @@ fn put<D: Notation>(index: usize, cell: Cell<D>, cells: &mut [Cell<D>]) -> usize
     }
 }
 
-// One cell less is to come in the line.
-fn after_cell(progress: Progress, index: usize) -> Progress
-    ensures { result ≡ after_cell progress index }
+// Where a line stands that still wants so many cells.
+fn with_left(left: usize) -> Stage
+    ensures { result ≡ with_left left }
 {
-    Progress {
-        stage: if progress.left > 1 {
-            Stage::Cell
+    if left > 0 {
+        Stage::Cell(left)
+    } else {
+        Stage::Number
+    }
+}
+
+impl Progress {
+    // The word that begins a line.
+    fn take_row(self, word: Word) -> Result<Progress, TableFault>
+        ensures { result ≡ row_taken self word.entry.place word.entry.bytes.now }
+    {
+        if self.row < self.size.rows && is_row(self.row, word.bytes) {
+            Ok(Progress {
+                stage: Stage::Mark,
+                row: self.row + 1,
+                ..self
+            })
         } else {
-            Stage::Number
-        },
-        row: progress.row,
-        left: progress.left.saturating_sub(1),
-        index,
-    }
-}
-
-fn take_cell<D: Notation>(
-    progress: Progress,
-    place: usize,
-    word: &[u8],
-    cells: &mut [Cell<D>],
-) -> Result<Progress, TableFault>
-    ensures { TookAs (cell_taken D.Domain.ops D.Notation.read_as progress place word.now cells.old) result cells.new }
-{
-    match read_cell(word) {
-        Some(cell) => {
-            let index = put(progress.index, cell, cells);
-            Ok(after_cell(progress, index))
+            Err(TableFault::Misfit(word.place))
         }
-        None => Err(TableFault::Misfit(place)),
     }
-}
 
-// One word more, in the line of the word before it or in a new one.
-pub(crate) fn take_word<D: Notation>(
-    size: Size,
-    progress: Progress,
-    new_line: bool,
-    place: usize,
-    word: &[u8],
-    cells: &mut [Cell<D>],
-) -> Result<Progress, TableFault>
-    ensures { TookAs (word_taken D.Domain.ops D.Notation.read_as size progress new_line place word.now cells.old) result cells.new }
-{
-    match (progress.stage, new_line) {
-        (Stage::Begin, _) => {
-            if same(word, b"settled") {
-                let mut heading = progress;
-                heading.stage = Stage::Heading;
-                Ok(heading)
-            } else {
-                take_row(size, progress, place, word)
-            }
+    // Any word behind the number of a line: its cells are to come.
+    fn take_mark(self) -> Progress
+        ensures { result ≡ mark_taken self }
+    {
+        Progress {
+            stage: with_left(self.size.width),
+            ..self
         }
-        (Stage::Heading, false) => Ok(progress),
-        (Stage::Heading, true) => take_row(size, progress, place, word),
-        (Stage::Number, true) => take_row(size, progress, place, word),
-        (Stage::Mark, false) => Ok(take_mark(size, progress)),
-        (Stage::Cell, false) => take_cell(progress, place, word, cells),
-        _ => Err(TableFault::Misfit(place)),
+    }
+
+    // One cell, where the line still wants so many.
+    fn take_cell<D: Notation>(
+        self,
+        left: usize,
+        word: Word,
+        cells: &mut [Cell<D>],
+    ) -> Result<Progress, TableFault>
+        ensures { TookAs (cell_taken D.Domain.ops D.Notation.read_as self left word.entry.place word.entry.bytes.now cells.old) result cells.new }
+    {
+        let cell = read_cell(word.bytes).ok_or(TableFault::Misfit(word.place))?;
+        Ok(Progress {
+            stage: with_left(left.saturating_sub(1)),
+            index: put(self.index, cell, cells),
+            ..self
+        })
+    }
+
+    // One word more.
+    pub(crate) fn take_word<D: Notation>(
+        self,
+        word: Word,
+        cells: &mut [Cell<D>],
+    ) -> Result<Progress, TableFault>
+        ensures { TookAs (word_taken D.Domain.ops D.Notation.read_as self word.entry.new_line word.entry.place word.entry.bytes.now cells.old) result cells.new }
+    {
+        match (self.stage, word.new_line) {
+            (Stage::Begin, _) if word.bytes == b"settled".as_slice() => Ok(Progress {
+                stage: Stage::Heading,
+                ..self
+            }),
+            (Stage::Begin, _) | (Stage::Heading | Stage::Number, true) => self.take_row(word),
+            (Stage::Heading, false) => Ok(self),
+            (Stage::Mark, false) => Ok(self.take_mark()),
+            (Stage::Cell(left), false) => self.take_cell(left, word, cells),
+            _ => Err(TableFault::Misfit(word.place)),
+        }
+    }
+
+    // The text may end only behind its last line.
+    pub(crate) fn end(self, place: usize) -> Result<(), TableFault>
+        ensures { result ≡ ended self place }
+    {
+        match self.stage {
+            Stage::Begin | Stage::Heading | Stage::Number if self.row == self.size.rows => Ok(()),
+            _ => Err(TableFault::Misfit(place)),
+        }
     }
 }

@@ -6,8 +6,7 @@ use std::test::Fail;
 // The bytes by which a word is written.
 fn written<'t>(word: Word<'t>) -> &'t [u8] {
     match word {
-        Word::Name(bytes) => bytes,
-        Word::Number(bytes) => bytes,
+        Word::Name(bytes) | Word::Number(bytes) => bytes,
         Word::Colon => b":",
         Word::Semicolon => b";",
         Word::Assign => b":=",
