@@ -84,10 +84,14 @@ abbrev pub is_int : Constant → Bool
 is_int (constant.Bool b) = false
 is_int (constant.Int n) = true
 
--- what setting a range answers, and what the program keeps after it
-pub record Setting : Type 0 where
-  pub answer : Result (Unit {0}) RangeFault
+-- an answer, and what the program keeps after it
+pub record Outcome (X E : Type 0) : Type 0 where
+  pub answer : Result X E
   pub after : Memory
+
+-- of setting a range
+abbrev pub Setting : Type 0
+Setting = Outcome (Unit {0}) RangeFault
 
 abbrev pub with_range : Memory → ℕ → ℤ → ℤ → Memory
 with_range m i low high = record {
@@ -115,7 +119,9 @@ input_at m position = input_from 0 (take m.variable_count m.variables) position
 abbrev pub ranging : Memory → ℕ → ℤ → ℤ → Setting
 ranging m position low high = ranging_at m (input_at m position) position low high
 
--- the code's answer and memory are those of a setting
-pub record SetAs (want : Setting) (r : Result (Unit {0}) RangeFault) (after : Memory) : Type 0 where
+-- the code's answer and the program's memory are those of an outcome, and the program keeps the caller's records
+pub record SetAs {X E : Type 0} (want : Outcome X E) (r : Result X E) (old new : Program) : Type 0 where
   pub answer : r ≡ want.answer
-  pub memory : after ≡ want.after
+  pub memory : memory new ≡ want.after
+  pub variables : new.variables.ghost_name ≡ old.variables.ghost_name
+  pub statements : new.statements.ghost_name ≡ old.statements.ghost_name

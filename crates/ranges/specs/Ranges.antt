@@ -1,19 +1,20 @@
--- What a text of ranges sets: three numbers for each, position, low and high, set as they are read.
-use Rattle.std.specs.Prelude.{◌≡◌, ℕ, zero, suc, ◌+◌, cond, List, length, ℤ, pos, negsuc, Some, None, Ok, Err, Option, Result, nat_lt}
+-- What a text of ranges, or the front of a script, sets: three numbers for each, position, low and high, set as they are read.
+use Rattle.std.specs.Prelude.{ℕ, zero, suc, ◌+◌, Bool, true, false, cond, List, length, ℤ, pos, negsuc, Some, None, Ok, Err, Option, Result, nat_lt}
 use Rattle.numbers.specs.Number.{int_of}
 use Rattle.words.specs.declared.word.WordFault.{WordFault}
 use Rattle.words.specs.Words.{Lexeme, name, number, colon, semicolon, assign, next_at}
-use Rattle.program.specs.Model.{Memory, ranging}
+use Rattle.program.specs.Model.{Memory, Outcome as ProgramOutcome, ranging}
 use Rattle.reading.specs.declared.fault.RangeFault.{RangeFault}
 use Rattle.ranges.specs.declared.fault.RangesFault.{RangesFault}
 use Rattle.ranges.specs.declared.fault.RangesFault.TheVariants.{TooLong, Word, Misfit, Range}
+use Rattle.ranges.specs.declared.text.Until.{Until}
+use Rattle.ranges.specs.declared.text.Until.TheVariants.{End, Name}
 use Rattle.ranges.specs.declared.take.Awaiting.{Awaiting}
 use Rattle.ranges.specs.declared.take.Awaiting.TheVariants.{Position, Low, High}
 
--- an answer, and what the program keeps after it
-pub record Outcome (X : Type 0) : Type 0 where
-  pub answer : Result X RangesFault
-  pub after : Memory
+-- what a part of a text answers, and what the program keeps after it
+abbrev pub Outcome : Type 0 → Type 0
+Outcome X = ProgramOutcome X RangesFault
 
 abbrev pub outcome : {X : Type 0} → Result X RangesFault → Memory → Outcome X
 outcome r m = record { answer = r; after = m }
@@ -67,29 +68,40 @@ abbrev pub further : Result Awaiting RangesFault → Memory → (Awaiting → Me
 further (Err f) m next = outcome (Err f) m
 further (Ok a) m next = next a m
 
-abbrev pub go_on : List ℕ → Awaiting → Memory → Result (Option (ℕ × Lexeme × ℕ)) WordFault → (ℕ → Awaiting → Memory → Outcome (Unit {0})) → Outcome (Unit {0})
-go_on text a m (Err e) next = outcome (Err (Word e)) m
-go_on text a m (Ok None) next = outcome (ended a (length text)) m
-go_on text a m (Ok (Some x)) next = further (word_taken m a x.0 x.1).answer (word_taken m a x.0 x.1).after (next x.2)
+abbrev pub is_name : Lexeme → Bool
+is_name (name bytes) = true
+is_name (number bytes) = false
+is_name colon = false
+is_name semicolon = false
+is_name assign = false
+
+-- whether a word ends the ranges: at the front of a script a name does, where a range may begin
+abbrev pub ends : Until → Awaiting → Lexeme → Bool
+ends End a w = false
+ends Name Position w = is_name w
+ends Name (Low input) w = false
+ends Name (High input low) w = false
+
+abbrev pub go_on : Until → List ℕ → Awaiting → Memory → Result (Option (ℕ × Lexeme × ℕ)) WordFault → (ℕ → Awaiting → Memory → Outcome (Unit {0})) → Outcome (Unit {0})
+go_on until text a m (Err e) next = outcome (Err (Word e)) m
+go_on until text a m (Ok None) next = outcome (ended a (length text)) m
+go_on until text a m (Ok (Some x)) next =
+    cond (ends until a x.1) (outcome (Ok tt) m)
+    (further (word_taken m a x.0 x.1).answer (word_taken m a x.0 x.1).after (next x.2))
 
 -- the effect of the words from the place p on, of which there are fewer than n
-abbrev pub taken_from : ℕ → List ℕ → ℕ → Awaiting → Memory → Outcome (Unit {0})
-taken_from zero text p a m = outcome (ended a (length text)) m
-taken_from (suc n) text p a m = go_on text a m (next_at text p) (λ q b k. taken_from n text q b k)
+abbrev pub taken_from : ℕ → Until → List ℕ → ℕ → Awaiting → Memory → Outcome (Unit {0})
+taken_from zero until text p a m = outcome (ended a (length text)) m
+taken_from (suc n) until text p a m = go_on until text a m (next_at text p) (λ q b k. taken_from n until text q b k)
 
--- the effect of all words of a text; each takes a byte at least
-abbrev pub taken_all : List ℕ → Memory → Outcome (Unit {0})
-taken_all text m = taken_from (length text + 1) text 0 Position m
+-- the effect of all words up to the one that ends the ranges; each takes a byte at least
+abbrev pub taken_until : Until → List ℕ → Memory → Outcome (Unit {0})
+taken_until until text m = taken_from (length text + 1) until text 0 Position m
 
--- what a text of ranges does: a text above 65,535 bytes sets none
+-- what the ranges of a text do: a text above 65,535 bytes sets none
+abbrev pub setting_until : Until → List ℕ → Memory → Outcome (Unit {0})
+setting_until until text m = cond (nat_lt 65535 (length text)) (outcome (Err TooLong) m) (taken_until until text m)
+
+-- what a text of ranges does
 abbrev pub setting : List ℕ → Memory → Outcome (Unit {0})
-setting text m = cond (nat_lt 65535 (length text)) (outcome (Err TooLong) m) (taken_all text m)
-
--- the code's answer and the program's memory are those of an outcome
-pub record TookAs (want : Outcome Awaiting) (r : Result Awaiting RangesFault) (after : Memory) : Type 0 where
-  pub answer : r ≡ want.answer
-  pub memory : after ≡ want.after
-
-pub record SetAs (want : Outcome (Unit {0})) (r : Result (Unit {0}) RangesFault) (after : Memory) : Type 0 where
-  pub answer : r ≡ want.answer
-  pub memory : after ≡ want.after
+setting text m = setting_until End text m

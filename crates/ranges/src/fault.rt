@@ -4,6 +4,7 @@ ghost use Rattle.ranges.specs.declared.fault.RangesFault.TheVariants.{Word};
 ghost use Rattle.ranges.specs.Faults.{ranges_number, ranges_place, ranges_spot};
 
 use reading::fault::RangeFault;
+use reading::fill::MOST_BYTES;
 use thiserror::Error;
 use words::WordFault;
 
@@ -48,7 +49,7 @@ impl RangesFault {
         ensures { result ≡ ranges_place self.now }
     {
         match self {
-            RangesFault::TooLong => 65_535,
+            RangesFault::TooLong => MOST_BYTES,
             RangesFault::Word(fault) => fault.place(),
             RangesFault::Misfit(place) => *place,
             RangesFault::Range(fault, _) => fault.place(),
@@ -60,10 +61,9 @@ impl RangesFault {
         ensures { result ≡ ranges_spot self.now }
     {
         match self {
-            RangesFault::TooLong => 65_535,
+            RangesFault::TooLong => MOST_BYTES,
             RangesFault::Word(fault) => fault.place(),
-            RangesFault::Misfit(start) => *start,
-            RangesFault::Range(_, place) => *place,
+            RangesFault::Misfit(place) | RangesFault::Range(_, place) => *place,
         }
     }
 }

@@ -2,9 +2,7 @@
 #![tactic(auto)]
 
 pub mod fault;
-pub mod front;
 mod take;
 pub mod text;
 
-pub use front::set_front;
-pub use text::set_ranges;
+pub use text::{set_front, set_ranges};

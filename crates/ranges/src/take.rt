@@ -1,8 +1,8 @@
 // What each number of a range does.
 ghost use Rattle.std.specs.Prelude.{◌≡◌};
-ghost use Rattle.program.specs.Model.{memory};
+ghost use Rattle.program.specs.Model.{memory, SetAs};
 ghost use Rattle.words.specs.Words.{seen};
-ghost use Rattle.ranges.specs.Ranges.{number_in, position_at, number_taken, word_taken, TookAs};
+ghost use Rattle.ranges.specs.Ranges.{number_in, position_at, number_taken, word_taken};
 
 use crate::fault::RangesFault;
 use numbers::Int;
@@ -31,10 +31,7 @@ fn number_in(place: usize, word: Word) -> Result<Int, RangesFault>
     ensures { result ≡ number_in place (seen word.entry) }
 {
     match word {
-        Word::Number(bytes) => match numbers::value(bytes) {
-            Some(number) => Ok(number),
-            None => Err(RangesFault::Misfit(place)),
-        },
+        Word::Number(bytes) => numbers::value(bytes).ok_or(RangesFault::Misfit(place)),
         _ => Err(RangesFault::Misfit(place)),
     }
 }
@@ -42,11 +39,7 @@ fn number_in(place: usize, word: Word) -> Result<Int, RangesFault>
 fn position_at(place: usize, number: Int) -> Result<usize, RangesFault>
     ensures { result ≡ position_at place number }
 {
-    if number < 0 {
-        Err(RangesFault::Misfit(place))
-    } else {
-        Ok(number as usize)
-    }
+    usize::try_from(number).map_err(|_| RangesFault::Misfit(place))
 }
 
 // The third number of a range sets it.
@@ -56,9 +49,7 @@ fn take_number(
     place: usize,
     number: Int,
 ) -> Result<Awaiting, RangesFault>
-    ensures is { TookAs (number_taken (memory program.old) awaiting place number) result (memory program.new) }
-    ensures variables { program.new.variables.ghost_name ≡ program.old.variables.ghost_name }
-    ensures statements { program.new.statements.ghost_name ≡ program.old.statements.ghost_name }
+    ensures { SetAs (number_taken (memory program.old) awaiting place number) result program.old program.new }
 {
     match awaiting {
         Awaiting::Position => {
@@ -66,10 +57,12 @@ fn take_number(
             Ok(Awaiting::Low(Input { place, position }))
         }
         Awaiting::Low(input) => Ok(Awaiting::High(input, number)),
-        Awaiting::High(input, low) => match program.set_range(input.position, low, number) {
-            Ok(_) => Ok(Awaiting::Position),
-            Err(fault) => Err(RangesFault::Range(fault, input.place)),
-        },
+        Awaiting::High(input, low) => {
+            program
+                .set_range(input.position, low, number)
+                .map_err(|fault| RangesFault::Range(fault, input.place))?;
+            Ok(Awaiting::Position)
+        }
     }
 }
 
@@ -79,9 +72,7 @@ pub(crate) fn take_word(
     place: usize,
     word: Word,
 ) -> Result<Awaiting, RangesFault>
-    ensures is { TookAs (word_taken (memory program.old) awaiting place (seen word.entry)) result (memory program.new) }
-    ensures variables { program.new.variables.ghost_name ≡ program.old.variables.ghost_name }
-    ensures statements { program.new.statements.ghost_name ≡ program.old.statements.ghost_name }
+    ensures { SetAs (word_taken (memory program.old) awaiting place (seen word.entry)) result program.old program.new }
 {
     let number = number_in(place, word)?;
     take_number(program, awaiting, place, number)

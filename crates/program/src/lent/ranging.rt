@@ -19,9 +19,7 @@ impl<'r> Program<'r> {
 
     // Sets the range of the INT input at a position from 0 among all inputs; a refusal changes nothing.
     pub fn set_range(&mut self, position: usize, low: Int, high: Int) -> Result<(), RangeFault>
-        ensures is { SetAs (ranging (memory self.old) position low high) result (memory self.new) }
-        ensures variables { self.new.variables.ghost_name ≡ self.old.variables.ghost_name }
-        ensures statements { self.new.statements.ghost_name ≡ self.old.statements.ghost_name }
+        ensures is { SetAs (ranging (memory self.old) position low high) result self.old self.new }
     {
         let index = self
             .input(position)
