@@ -1,9 +1,10 @@
 -- Steps and ends of the loops over a slice: what is left of it gives the answer.
-use Rattle.std.specs.Prelude.{◌≡◌, ℕ, zero, suc, ◌+◌, ◌-◌, ◌<◌, Bool, true, false, not, ◌&&◌, ◌||◌, List, [], ◌∷◌, ◌++◌, length, drop, ℤ, pos, ◌+ℤ◌, fold, FitsSigned, ◌≢◌, int_le, int_lt, slice_index_or, refl}
+use Rattle.std.specs.Prelude.{◌≡◌, ℕ, zero, suc, ◌+◌, ◌-◌, ◌<◌, Bool, true, false, ◌||◌, List, [], ◌∷◌, ◌++◌, length, drop, ℤ, pos, ◌+ℤ◌, fold, FitsSigned, ◌≢◌, int_le, int_lt, slice_index_or, refl}
 use Rattle.std.proofs.Common.{sym, ap, subst, ◌∙◌, ⊎_elim, arith, to_z, of_z}
 use Rattle.std.specs.Int.{w16}
 use Rattle.std.specs.List.{AllAdjacentBelow, IsAllAdjacentAnswer}
 use Rattle.std.proofs.lemmas.List.{at_drop_more}
+use Rattle.std.proofs.lemmas.List.Sums.{fold-append}
 use Rattle.std.proofs.lemmas.Int.{ints, to_z-of_z}
 use Rattle.std.proofs.lemmas.Bool.{cond-true, cond-false, and_parts, and_from, false≢true, cases_Bool}
 use Rattle.std.proofs.lemmas.Bool.Decides.{nat_tests}
@@ -22,14 +23,10 @@ pub or_step : (F : List ℤ → Bool) (t : ℤ → Bool) → ((x : ℤ) (xs : Li
 or_step F t cons ns i b l e inv =
     ap (λ a. a || F (drop (i + 1) ns)) (sym e) ∙ sym (at_drop_more F ns i (pos 0) l ∙ cons _ _) ∙ inv
 
-pub folded-append : {S : Type 0} (f : S → ℤ → S) (s : S) (xs ys : List ℤ) → fold f s (xs ++ ys) ≡ fold f (fold f s xs) ys
-folded-append f s [] ys = refl
-folded-append f s (x ∷ xs) ys = folded-append f (f s x) xs ys
-
 -- a fold over what each number of the list gives
 pub fold_step : {S : Type 0} (f : S → ℤ → S) (F : List ℤ → List ℤ) (part : ℤ → List ℤ) → ((x : ℤ) (xs : List ℤ) → F (x ∷ xs) ≡ part x ++ F xs) → (ns : List ℤ) (i : ℕ) (s t r : S) → i < length ns → t ≡ fold f s (part (slice_index_or ns i (pos 0))) → fold f s (F (drop i ns)) ≡ r → fold f t (F (drop (i + 1) ns)) ≡ r
 fold_step f F part cons ns i s t r l e inv =
-    ap (λ a. fold f a (F (drop (i + 1) ns))) e ∙ sym (folded-append f s (part _) _) ∙ ap (fold f s) (sym (at_drop_more F ns i (pos 0) l ∙ cons _ _)) ∙ inv
+    ap (λ a. fold f a (F (drop (i + 1) ns))) e ∙ sym (fold-append f s (part _) _) ∙ ap (fold f s) (sym (at_drop_more F ns i (pos 0) l ∙ cons _ _)) ∙ inv
 
 -- in numbers that ascend strictly each is below the next, and only in those
 ascending-each : (xs : List ℤ) (k : ℕ) (d : ℤ) → k + 1 < length xs → ascending xs ≡ true → int_lt (slice_index_or xs k d) (slice_index_or xs (k + 1) d) ≡ true

@@ -5,7 +5,7 @@ ghost use Rattle.std.specs.Prelude.{◌≡◌, Bool, ◌++◌, ℤ, fold, Option
 ghost use Rattle.list.specs.Insertion.{put_in};
 ghost use Rattle.list.specs.NumberList.{is_everything, listed, smallest, is_empty, is_within, results, some, list_ops};
 ghost use Rattle.list.specs.Numbers.{row, pairs, some_with, some_pair, counted};
-ghost use Rattle.list.specs.Operations.{Computes};
+ghost use Rattle.domain.specs.Computed.{Computes};
 ghost use Rattle.list.specs.Meaning;
 
 mod numbers_of;

@@ -1,6 +1,6 @@
 use Rattle.std.proofs.Common.{◌≡◌, Bool, drop, ℤ}
 use Rattle.list.specs.Numbers.{some_with}
-use Rattle.list.specs.Operations.{Computes}
+use Rattle.domain.specs.Computed.{Computes}
 use Rattle.list.proofs.some_in.Given as goal
 
 abbrev pub invariant-loop-b : goal.invariant-loop-b

@@ -1,6 +1,6 @@
 use Rattle.std.proofs.Common.{◌≡◌, Bool, drop, ℤ}
 use Rattle.list.specs.Numbers.{some_pair}
-use Rattle.list.specs.Operations.{Computes}
+use Rattle.domain.specs.Computed.{Computes}
 use Rattle.list.proofs.some_pair.Given as goal
 
 abbrev pub invariant-loop-a : goal.invariant-loop-a
