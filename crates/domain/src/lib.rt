@@ -86,9 +86,7 @@ pub fn spanned<D: Domain>(numbers: &[Int]) -> D
     ensures holds_each { HoldsEach D.ops result numbers.now }
     ensures least { LeastOver D.ops result numbers.now }
 {
-    let mut set = D::span(1, 0);
-    for n in numbers {
-        set = set.join(D::span(*n, *n));
-    }
-    set
+    numbers
+        .iter()
+        .fold(D::span(1, 0), |set, n| set.join(D::span(*n, *n)))
 }

@@ -1,7 +1,6 @@
 pub mod Ends
 pub mod Exact
 pub mod Interval
-pub mod Range
 pub mod Meaning
 pub mod Edges
 pub mod Corners

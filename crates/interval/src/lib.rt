@@ -1,19 +1,17 @@
 // The interval domain: nothing, or the INTs from a low to a high end.
 #![tactic(auto)]
 
-ghost use Rattle.std.specs.Prelude.{◌≡◌, ◌+ℤ◌, ◌-ℤ◌, ◌*ℤ◌};
+ghost use Rattle.std.specs.Prelude.{◌≡◌, ◌+ℤ◌, ◌-ℤ◌, ◌*ℤ◌, int_div};
 ghost use Rattle.interval.specs.Ends.{results, quotients};
 ghost use Rattle.interval.specs.Exact.{Exact};
 ghost use Rattle.interval.specs.Interval.{interval_ops, ends};
 ghost use Rattle.interval.specs.Meaning;
 
 mod ends;
-mod range;
 
 use domain::{Domain, Truth};
-use ends::{Ends, cut, nothing, overflows};
+use ends::{Ends, results};
 use numbers::Int;
-use range::Range;
 
 // The INTs from `low` to `high`; a record whose low is above its high contains nothing.
 #[derive(Clone, Copy, PartialEq, Eq, Debug)]
@@ -26,52 +24,43 @@ pub struct Interval {
 fn sums(x: Interval, y: Interval) -> Ends
     ensures { result ≡ results ◌+ℤ◌ (ends x) (ends y) }
 {
-    let Some(x) = Range::check(x) else {
-        return nothing();
-    };
-    let Some(y) = Range::check(y) else {
-        return nothing();
-    };
-    x.add(y)
+    results(|a, b| a as i32 + b as i32, x, y)
 }
 
 // The differences before they are cut to INT.
 fn differences(x: Interval, y: Interval) -> Ends
     ensures { result ≡ results ◌-ℤ◌ (ends x) (ends y) }
 {
-    let Some(x) = Range::check(x) else {
-        return nothing();
-    };
-    let Some(y) = Range::check(y) else {
-        return nothing();
-    };
-    x.sub(y)
+    results(|a, b| a as i32 - b as i32, x, y)
 }
 
 // The products before they are cut to INT.
 fn products(x: Interval, y: Interval) -> Ends
     ensures { result ≡ results ◌*ℤ◌ (ends x) (ends y) }
 {
-    let Some(x) = Range::check(x) else {
-        return nothing();
-    };
-    let Some(y) = Range::check(y) else {
-        return nothing();
-    };
-    x.mul(y)
+    results(|a, b| a as i32 * b as i32, x, y)
 }
 
-// The quotients before they are cut to INT.
-fn ratios(x: Interval, y: Interval) -> Ends
+// The quotient without its fraction; 0 for a divisor 0.
+fn quotient(a: Int, b: Int) -> i32
+    ensures { result ≡ int_div a b }
+{
+    if b == 0 { 0 } else { a as i32 / b as i32 }
+}
+
+// The quotients for the negative and for the positive part of the divisor, and all that lies between.
+fn quotients(x: Interval, y: Interval) -> Ends
     ensures { result ≡ quotients (ends x) (ends y) }
 {
-    let Some(x) = Range::check(x) else {
-        return nothing();
+    let negative = Interval {
+        low: y.low,
+        high: y.high.min(-1),
     };
-    let Some(y) = Range::check(y) else {
-        return nothing();
+    let positive = Interval {
+        low: y.low.max(1),
+        high: y.high,
     };
-    x.div(y)
+    results(quotient, x, negative).join(results(quotient, x, positive))
 }
 
 // Does nothing: its contract is the theorem that a yes of the interval's questions, and a flag that is on, has numbers in both intervals for its reason.
@@ -101,31 +90,31 @@ impl Domain for Interval {
     }
 
     fn add(self, other: Interval) -> Interval {
-        cut(sums(self, other))
+        sums(self, other).cut()
     }
 
     fn sub(self, other: Interval) -> Interval {
-        cut(differences(self, other))
+        differences(self, other).cut()
     }
 
     fn mul(self, other: Interval) -> Interval {
-        cut(products(self, other))
+        products(self, other).cut()
     }
 
     fn div(self, other: Interval) -> Interval {
-        cut(ratios(self, other))
+        quotients(self, other).cut()
     }
 
     fn add_overflows(self, other: Interval) -> bool {
-        overflows(sums(self, other))
+        sums(self, other).overflows()
     }
 
     fn sub_overflows(self, other: Interval) -> bool {
-        overflows(differences(self, other))
+        differences(self, other).overflows()
     }
 
     fn mul_overflows(self, other: Interval) -> bool {
-        overflows(products(self, other))
+        products(self, other).overflows()
     }
 
     fn less(self, other: Interval) -> Truth {

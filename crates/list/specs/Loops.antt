@@ -1,9 +1,11 @@
 -- Steps and ends of the loops over a slice: what is left of it gives the answer.
-use Rattle.std.specs.Prelude.{◌≡◌, ℕ, zero, suc, ◌+◌, ◌-◌, ◌<◌, Bool, true, false, not, ◌&&◌, ◌||◌, List, [], ◌∷◌, ◌++◌, length, drop, ℤ, pos, ◌+ℤ◌, fold, FitsSigned, ◌≢◌, int_le, int_lt, slice_index_or, refl}
+use Rattle.std.specs.Prelude.{◌≡◌, ℕ, zero, suc, ◌+◌, ◌-◌, ◌<◌, Bool, true, false, List, [], ◌∷◌, ◌++◌, length, drop, ℤ, pos, ◌+ℤ◌, fold, FitsSigned, ◌≢◌, int_le, int_lt, slice_index_or, refl}
 use Rattle.std.proofs.Common.{sym, ap, subst, ◌∙◌, ⊎_elim, arith, to_z, of_z}
 use Rattle.std.specs.Int.{w16}
-use Rattle.std.specs.List.{AllAdjacentBelow, IsAllAdjacentAnswer}
+use Rattle.std.specs.List.{AllAdjacentBelow, IsAllAdjacentAnswer, IsAnyAnswer, list_any}
 use Rattle.std.proofs.lemmas.List.{at_drop_more}
+use Rattle.std.proofs.lemmas.List.Folds.{list_any_at, list_any_none}
+use Rattle.std.proofs.lemmas.List.Sums.{fold-append}
 use Rattle.std.proofs.lemmas.Int.{ints, to_z-of_z}
 use Rattle.std.proofs.lemmas.Bool.{cond-true, cond-false, and_parts, and_from, false≢true, cases_Bool}
 use Rattle.std.proofs.lemmas.Bool.Decides.{nat_tests}
@@ -17,19 +19,15 @@ passed n = to_z w16 (of_z w16 n)
 pub same_bits : (x n : ℤ) → FitsSigned w16 x → of_z w16 x ≡ of_z w16 n → x ≡ passed n
 same_bits x n f e = sym (to_z-of_z w16 x f) ∙ ap (to_z w16) e
 
--- a test of a list that is the test of its first number, or that of the rest
-pub or_step : (F : List ℤ → Bool) (t : ℤ → Bool) → ((x : ℤ) (xs : List ℤ) → F (x ∷ xs) ≡ (t x || F xs)) → (ns : List ℤ) (i : ℕ) (b : Bool) → i < length ns → t (slice_index_or ns i (pos 0)) ≡ b → F (drop i ns) ≡ F ns → (b || F (drop (i + 1) ns)) ≡ F ns
-or_step F t cons ns i b l e inv =
-    ap (λ a. a || F (drop (i + 1) ns)) (sym e) ∙ sym (at_drop_more F ns i (pos 0) l ∙ cons _ _) ∙ inv
-
-pub folded-append : {S : Type 0} (f : S → ℤ → S) (s : S) (xs ys : List ℤ) → fold f s (xs ++ ys) ≡ fold f (fold f s xs) ys
-folded-append f s [] ys = refl
-folded-append f s (x ∷ xs) ys = folded-append f (f s x) xs ys
+-- what `any` answers is whether the test holds somewhere
+pub any_is : (p : ℤ → Bool) (ns : List ℤ) (r : Bool) → IsAnyAnswer (λ x b. p x ≡ b) ns r → r ≡ list_any p ns
+any_is p ns true h = sym (list_any_at p ns h.0 (pos 0) h.1 (h.2 (pos 0)))
+any_is p ns false h = sym (list_any_none p ns (λ k d l. h k d (omega arith) l))
 
 -- a fold over what each number of the list gives
 pub fold_step : {S : Type 0} (f : S → ℤ → S) (F : List ℤ → List ℤ) (part : ℤ → List ℤ) → ((x : ℤ) (xs : List ℤ) → F (x ∷ xs) ≡ part x ++ F xs) → (ns : List ℤ) (i : ℕ) (s t r : S) → i < length ns → t ≡ fold f s (part (slice_index_or ns i (pos 0))) → fold f s (F (drop i ns)) ≡ r → fold f t (F (drop (i + 1) ns)) ≡ r
 fold_step f F part cons ns i s t r l e inv =
-    ap (λ a. fold f a (F (drop (i + 1) ns))) e ∙ sym (folded-append f s (part _) _) ∙ ap (fold f s) (sym (at_drop_more F ns i (pos 0) l ∙ cons _ _)) ∙ inv
+    ap (λ a. fold f a (F (drop (i + 1) ns))) e ∙ sym (fold-append f s (part _) _) ∙ ap (fold f s) (sym (at_drop_more F ns i (pos 0) l ∙ cons _ _)) ∙ inv
 
 -- in numbers that ascend strictly each is below the next, and only in those
 ascending-each : (xs : List ℤ) (k : ℕ) (d : ℤ) → k + 1 < length xs → ascending xs ≡ true → int_lt (slice_index_or xs k d) (slice_index_or xs (k + 1) d) ≡ true

@@ -5,7 +5,7 @@ ghost use Rattle.std.specs.Prelude.{◌≡◌, Bool, ◌++◌, ℤ, fold, Option
 ghost use Rattle.list.specs.Insertion.{put_in};
 ghost use Rattle.list.specs.NumberList.{is_everything, listed, smallest, is_empty, is_within, results, some, list_ops};
 ghost use Rattle.list.specs.Numbers.{row, pairs, some_with, some_pair, counted};
-ghost use Rattle.list.specs.Operations.{Computes};
+ghost use Rattle.domain.specs.Computed.{Computes};
 ghost use Rattle.list.specs.Meaning;
 
 mod numbers_of;
@@ -122,13 +122,7 @@ fn some_in<F: Fn(Int, Int) -> bool + Copy>(test: F, a: Int, numbers: &[Int]) -> 
     requires { F.IsAlwaysCallable test }
     ensures { (t : ℤ → ℤ → Bool) → Computes F.Fn t test → result ≡ some_with t a numbers.now }
 {
-    // Not `any`: its contract says nothing of the range of the items, which `Computes` asks for, and the proof stayed open.
-    for b in numbers {
-        if test(a, *b) {
-            return true;
-        }
-    }
-    false
+    numbers.iter().any(|b| test(a, *b))
 }
 
 // Whether some pair passes the test.
@@ -136,13 +130,7 @@ fn some_pair<F: Fn(Int, Int) -> bool + Copy>(test: F, xs: &[Int], ys: &[Int]) ->
     requires { F.IsAlwaysCallable test }
     ensures { (t : ℤ → ℤ → Bool) → Computes F.Fn t test → result ≡ some_pair t xs.now ys.now }
 {
-    // Not `any`, as in `some_in`.
-    for a in xs {
-        if some_in(test, *a, ys) {
-            return true;
-        }
-    }
-    false
+    xs.iter().any(|a| some_in(test, *a, ys))
 }
 
 // The smallest set over the first numbers from `low` on that are not above `high`.

@@ -1,7 +1,7 @@
 use Rattle.std.proofs.Common.{◌≡◌, drop, ℤ, fold, Option}
 use Rattle.list.specs.Insertion.{put_in}
 use Rattle.list.specs.Numbers.{row}
-use Rattle.list.specs.Operations.{Computes}
+use Rattle.domain.specs.Computed.{Computes}
 use Rattle.list.proofs.NumberList.put_row.Given as goal
 
 abbrev pub invariant-loop-b : goal.invariant-loop-b
