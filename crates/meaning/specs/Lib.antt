@@ -1,2 +1,1 @@
 pub mod Meaning
-pub mod Sources

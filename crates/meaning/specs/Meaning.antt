@@ -19,6 +19,8 @@ use Rattle.cells.specs.declared.value.Value.TheVariants.{Unset, Bool, Int}
 use Rattle.cells.specs.declared.value.Sort.{Sort}
 use Rattle.cells.specs.declared.value.Sort.TheVariants as sort
 use Rattle.cells.specs.Values.{sort_of, value_of}
+use Rattle.meaning.specs.declared.source.Source.{Source}
+use Rattle.meaning.specs.declared.source.Source.TheVariants as source
 use Rattle.meaning.specs.declared.edge.Edge.{Edge}
 use Rattle.meaning.specs.declared.edge.Edge.TheVariants as way
 use Rattle.meaning.specs.declared.compute.Cause.{Cause}
@@ -192,25 +194,42 @@ pub record State : Type 0 where
 abbrev pub kind_value : List Variable → ℕ → Value
 kind_value vars i = value_of (get_or vars i no_variable).declaration.initial
 
-abbrev pub operand_of : List Value → Operand → Value
-operand_of values (Constant k) = value_of k
-operand_of values (variable i) = slice_index_or values i Unset
+-- a constant gives its value, a variable what it holds
+abbrev pub source_of_operand : Operand → Source
+source_of_operand (Constant k) = source.Value (value_of k)
+source_of_operand (variable i) = source.Variable i
 
--- ST and STN look at the variable's declared kind, S and R at its value
-abbrev pub stored_on : List Variable → List Value → Store → ℕ → Value
-stored_on vars values St i = kind_value vars i
-stored_on vars values Stn i = kind_value vars i
-stored_on vars values Set i = slice_index_or values i Unset
-stored_on vars values Reset i = slice_index_or values i Unset
+-- ST and STN look at the variable's declared kind, S and R at what it holds
+abbrev pub source_of_store : List Variable → Store → ℕ → Source
+source_of_store vars St i = source.Value (kind_value vars i)
+source_of_store vars Stn i = source.Value (kind_value vars i)
+source_of_store vars Set i = source.Variable i
+source_of_store vars Reset i = source.Variable i
+
+-- the source of an operation's operand; unset where it has none
+abbrev pub source_of : List Variable → Operation → Source
+source_of vars operation.Return = source.Value Unset
+source_of vars operation.Not = source.Value Unset
+source_of vars (operation.Label name) = source.Value Unset
+source_of vars (operation.Apply o x) = source_of_operand x
+source_of vars (operation.Store s i) = source_of_store vars s i
+source_of vars (operation.Jump j t) = source.Value Unset
+
+-- what a source gives, where `of` says how a value is held and `at` what a variable holds
+abbrev pub held_by : {A : Type 0} → (Value → A) → (ℕ → A) → Source → A
+held_by of at (source.Value v) = of v
+held_by of at (source.Variable i) = at i
+
+-- where values are held, a value is what it is, and a variable that is not there is unset
+abbrev pub value_at : List Value → ℕ → Value
+value_at values i = slice_index_or values i Unset
+
+abbrev pub operand_of : List Value → Operand → Value
+operand_of values x = held_by (λ v. v) (value_at values) (source_of_operand x)
 
 -- the operand of an operation; unset where it has none
 abbrev pub operand : List Variable → List Value → Operation → Value
-operand vars values operation.Return = Unset
-operand vars values operation.Not = Unset
-operand vars values (operation.Label name) = Unset
-operand vars values (operation.Apply o x) = operand_of values x
-operand vars values (operation.Store s i) = stored_on vars values s i
-operand vars values (operation.Jump j t) = Unset
+operand vars values op = held_by (λ v. v) (value_at values) (source_of vars op)
 
 -- what a store writes: ST the current result, STN its opposite; S and R TRUE or FALSE, only while it is TRUE
 abbrev pub stored : Store → ℕ → State → List Value

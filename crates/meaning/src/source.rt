@@ -1,7 +1,6 @@
 // Where the operand of an operation comes from.
 ghost use Rattle.std.specs.Prelude.{◌≡◌};
-ghost use Rattle.meaning.specs.Sources.{source_of};
-ghost use Rattle.meaning.specs.Meaning.{kind_value};
+ghost use Rattle.meaning.specs.Meaning.{kind_value, source_of};
 
 use cells::value::Value;
 use syntax::operator::Store;

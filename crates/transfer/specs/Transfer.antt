@@ -8,8 +8,6 @@ use Rattle.syntax.specs.declared.operator.Store.{Store}
 use Rattle.syntax.specs.declared.operator.Store.TheVariants.{St, Stn, Set, Reset}
 use Rattle.syntax.specs.declared.operator.Jump.{Jump}
 use Rattle.syntax.specs.declared.operator.Jump.TheVariants.{Jmp, Jmpc, Jmpcn}
-use Rattle.syntax.specs.declared.record.Operand.{Operand}
-use Rattle.syntax.specs.declared.record.Operand.TheVariants.{Constant, Variable as variable}
 use Rattle.syntax.specs.declared.record.Operation.{Operation}
 use Rattle.syntax.specs.declared.record.Operation.TheVariants as operation
 use Rattle.syntax.specs.declared.record.Variable.{Variable}
@@ -17,9 +15,8 @@ use Rattle.cells.specs.declared.value.Value.TheVariants.{Unset}
 use Rattle.cells.specs.declared.value.Sort.{Sort}
 use Rattle.cells.specs.declared.value.Sort.TheVariants as sort
 use Rattle.cells.specs.declared.cell.Cell.{Cell}
-use Rattle.cells.specs.Values.{value_of}
 use Rattle.cells.specs.Cells.{none, nothing, of_value, has, only, is_vacant}
-use Rattle.meaning.specs.Meaning.{accepted, combined, kind_value}
+use Rattle.meaning.specs.Meaning.{accepted, combined, source_of, held_by}
 use Rattle.meaning.specs.declared.edge.Edge.{Edge}
 use Rattle.meaning.specs.declared.edge.Edge.TheVariants as way
 use Rattle.transfer.specs.Rows.{restart_cells}
@@ -28,35 +25,22 @@ use Rattle.transfer.specs.Rows.{restart_cells}
 abbrev pub any_sort : (Sort → Truth) → Truth
 any_sort f = f sort.Unset || (f sort.Bool || f sort.Int)
 
--- what a call of a closure can answer is what a test says
-abbrev pub Computes : {A : Type 0} → (A → Truth → Type 0) → (A → Truth) → Type 0
-Computes answers f = (x : _) (t : Truth) → answers x t → t ≡ f x
+-- a result of what a test that answers by calls says of the three sorts
+abbrev pub OfSorts : {R : Type 0} → (Sort → Truth → Type 0) → (Truth → Truth → Truth → R) → R → Type 0
+OfSorts answers f r = (u : Truth) × (t : Truth) × (n : Truth) × answers sort.Unset u × answers sort.Bool t × answers sort.Int n × (r ≡ f u t n)
+
+-- the same of the four pairs of truths
+abbrev pub OfPairs : {R : Type 0} → (Truth → Truth → Truth → Type 0) → (Truth → Truth → Truth → Truth → R) → R → Type 0
+OfPairs answers f r = (a : Truth) × (b : Truth) × (c : Truth) × (d : Truth) × answers false false a × answers false true b × answers true false c × answers true true d × (r ≡ f a b c d)
 
 -- the truths exchanged
 abbrev pub exchanged : Flags → Flags
 exchanged t = record { can_be_true = t.can_be_false; can_be_false = t.can_be_true }
 
 module _ {S : Type 0} (o : Ops S) where
-  -- the cells of an operand: a constant's, a variable's
-  abbrev pub operand_cell : List (Cell S) → Operand → Cell S
-  operand_cell row (Constant k) = of_value o (value_of k)
-  operand_cell row (variable i) = slice_index_or row (i + 1) (nothing o)
-
-  -- ST and STN look at the variable's declared kind, S and R at its cell
-  abbrev pub stored_on_cell : List Variable → List (Cell S) → Store → ℕ → Cell S
-  stored_on_cell vars row St i = of_value o (kind_value vars i)
-  stored_on_cell vars row Stn i = of_value o (kind_value vars i)
-  stored_on_cell vars row Set i = slice_index_or row (i + 1) (nothing o)
-  stored_on_cell vars row Reset i = slice_index_or row (i + 1) (nothing o)
-
-  -- the operand of an operation; unset where it has none
+  -- the operand of an operation, where a value is the cell that allows it, and a variable's cell stands after the current result's
   abbrev pub operand_in : List Variable → List (Cell S) → Operation → Cell S
-  operand_in vars row operation.Return = of_value o Unset
-  operand_in vars row operation.Not = of_value o Unset
-  operand_in vars row (operation.Label name) = of_value o Unset
-  operand_in vars row (operation.Apply p x) = operand_cell row x
-  operand_in vars row (operation.Store s i) = stored_on_cell vars row s i
-  operand_in vars row (operation.Jump j t) = of_value o Unset
+  operand_in vars row op = held_by (of_value o) (λ i. slice_index_or row (i + 1) (nothing o)) (source_of vars op)
 
   -- the part of the current result that some part of the operand is accepted with, and the other way round
   abbrev pub left_kept : Operation → Cell S → Sort → Truth
@@ -81,16 +65,15 @@ module _ {S : Type 0} (o : Ops S) where
   abbrev pub opposites : Cell S → Cell S
   opposites x = truths x.can_be_true x.can_be_false
 
+  -- some allowed pair is said yes of, where a, b, c and d are said of the four pairs
+  abbrev pub some_pair : Cell S → Cell S → Truth → Truth → Truth → Truth → Truth
+  some_pair x y a b c d =
+      (x.can_be_false && (y.can_be_false && a))
+      || ((x.can_be_false && (y.can_be_true && b)) || ((x.can_be_true && (y.can_be_false && c)) || (x.can_be_true && (y.can_be_true && d))))
+
   -- the truths that an operator gives over every allowed pair
   abbrev pub over_pairs : (Truth → Truth → Truth) → Cell S → Cell S → Truth
-  over_pairs f x y =
-      (x.can_be_false && (y.can_be_false && f false false))
-      || ((x.can_be_false && (y.can_be_true && f false true))
-      || ((x.can_be_true && (y.can_be_false && f true false)) || (x.can_be_true && (y.can_be_true && f true true))))
-
-  -- an answer over every allowed pair, where `test` relates two truths to what is said of them
-  abbrev pub OverPairs : (Truth → Truth → Truth → Type 0) → Cell S → Cell S → Truth → Type 0
-  OverPairs test x y r = (f : Truth → Truth → Truth) → ((a b t : Truth) → test a b t → t ≡ f a b) → r ≡ over_pairs f x y
+  over_pairs f x y = some_pair x y (f false false) (f false true) (f true false) (f true true)
 
   abbrev pub logical : Operator → Cell S → Cell S → Cell S
   logical p x y = truths (over_pairs (λ a b. not (combined p a b)) x y) (over_pairs (combined p) x y)

@@ -1,6 +1,6 @@
 // What an operator and a store make of cells.
 ghost use Rattle.std.specs.Prelude.{◌≡◌};
-ghost use Rattle.transfer.specs.Transfer.{OverPairs, truths as truths_of, numbers_only, flagged, opposites as opposites_of, logical as logical_of, transferred, stored_cell, only_truth};
+ghost use Rattle.transfer.specs.Transfer.{OfPairs, some_pair, truths as truths_of, numbers_only, flagged, opposites as opposites_of, logical as logical_of, transferred, stored_cell, only_truth};
 
 use cells::cell::Cell;
 use domain::{Domain, Truth};
@@ -46,12 +46,12 @@ pub fn opposites<D: Domain>(cell: Cell<D>) -> Cell<D>
 // Whether a test is passed by some pair of truths that the cells allow.
 fn over_pairs<D: Domain, F: Fn(bool, bool) -> bool>(test: F, x: Cell<D>, y: Cell<D>) -> bool
     requires { F.IsAlwaysCallable test }
-    ensures { OverPairs D.ops (F.post test) x y result }
+    ensures { OfPairs (F.post test) (some_pair D.ops x y) result }
 {
-    (x.can_be_false && y.can_be_false && test(false, false))
-        || (x.can_be_false && y.can_be_true && test(false, true))
-        || (x.can_be_true && y.can_be_false && test(true, false))
-        || (x.can_be_true && y.can_be_true && test(true, true))
+    (x.can_be_false & (y.can_be_false & test(false, false)))
+        | ((x.can_be_false & (y.can_be_true & test(false, true)))
+            | ((x.can_be_true & (y.can_be_false & test(true, false)))
+                | (x.can_be_true & (y.can_be_true & test(true, true)))))
 }
 
 fn logical<D: Domain>(operator: Operator, x: Cell<D>, y: Cell<D>) -> Cell<D>

@@ -1,9 +1,9 @@
-// A row carried along a statement, kept as what is new in it.
+// A row carried along a statement, kept as what is new in it. The variables and the row are handed on as they are: a struct of the two would be taken apart again at each call from above.
 ghost use Rattle.std.specs.Prelude.{◌≡◌, ◌+◌, ◌<◌, length, drop, slice_index_or};
 ghost use Rattle.cells.specs.Cells.{nothing};
 ghost use Rattle.transfer.specs.Rows.{is_unreachable, restart_cells};
 ghost use Rattle.transfer.specs.Transfer.{with_result, with_variable, return_row, carried as carried_row, target_of};
-ghost use Rattle.transfer.specs.Carrying.{mapped, changed_row, row_of, resulting as resulting_in, jump_change, change_by, target_held};
+ghost use Rattle.transfer.specs.Carrying.{mapped, row_of, resulting as resulting_in, jump_change, change_by, target_held};
 
 use crate::apply::{only_truth, opposites, stored_cell, transfer_cell};
 use crate::operand::{left, right};
@@ -153,23 +153,6 @@ fn return_cell<D: Domain>(variables: &[Variable], row: &[Cell<D>], index: usize)
     }
 }
 
-// The cell at an index of a row that a change leaves.
-fn cell_after<D: Domain>(
-    change: Change<D>,
-    cr: Cell<D>,
-    variables: &[Variable],
-    row: &[Cell<D>],
-    index: usize,
-) -> Cell<D>
-    ensures { result ≡ slice_index_or (changed_row D.ops variables.now row.now cr change) index (nothing D.ops) }
-{
-    match change {
-        Change::Nothing => result_cell(row, cr, index),
-        Change::Variable(variable, cell) => changed_cell(row, cr, variable, cell, index),
-        Change::Inputs => return_cell(variables, row, index),
-    }
-}
-
 // The cell at an index of a carried row.
 pub fn carried_cell<D: Domain>(
     carried: Carried<D>,
@@ -179,7 +162,12 @@ pub fn carried_cell<D: Domain>(
 ) -> Cell<D>
     ensures { result ≡ slice_index_or (row_of D.ops variables.now row.now carried) index (nothing D.ops) }
 {
-    cell_after(carried.change, carried.cr, variables, row, index)
+    let Carried { cr, change } = carried;
+    match change {
+        Change::Nothing => result_cell(row, cr, index),
+        Change::Variable(variable, cell) => changed_cell(row, cr, variable, cell, index),
+        Change::Inputs => return_cell(variables, row, index),
+    }
 }
 
 // Whether a carried row that is as long as the row before has a vacant cell.

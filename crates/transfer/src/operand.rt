@@ -1,8 +1,8 @@
 // The operand of a statement, and what is kept of it and of the current result.
-ghost use Rattle.std.specs.Prelude.{◌≡◌, ◌+◌, slice_index_or};
-ghost use Rattle.cells.specs.Cells.{nothing};
+ghost use Rattle.std.specs.Prelude.{◌≡◌, ◌||◌, ◌+◌, slice_index_or};
+ghost use Rattle.cells.specs.Cells.{nothing, only};
 ghost use Rattle.syntax.specs.Records.{no_variable};
-ghost use Rattle.transfer.specs.Transfer.{operand_in, Computes, any_sort, left_kept, right_kept, kept_by, left_of, right_of};
+ghost use Rattle.transfer.specs.Transfer.{operand_in, OfSorts, left_kept, right_kept, left_of, right_of};
 
 use crate::rows::cell_at;
 use cells::cell::Cell;
@@ -41,9 +41,9 @@ pub fn operand<D: Domain>(variables: &[Variable], row: &[Cell<D>], operation: Op
 // Whether one of the three sorts passes a test.
 pub(crate) fn any_sort<F: Fn(Sort) -> bool>(test: F) -> bool
     requires { F.IsAlwaysCallable test }
-    ensures { (f : _) → Computes (F.post test) f → result ≡ any_sort f }
+    ensures { OfSorts (F.post test) (λ u t n. u || (t || n)) result }
 {
-    test(Sort::Unset) || test(Sort::Bool) || test(Sort::Int)
+    test(Sort::Unset) | (test(Sort::Bool) | test(Sort::Int))
 }
 
 // Whether a current result of the sort is accepted with some part of the operand.
@@ -63,7 +63,7 @@ fn keeps_right<D: Domain>(operation: Operation, left: Cell<D>, sort: Sort) -> bo
 // The parts of a cell whose sorts are kept.
 fn kept<D: Domain, F: Fn(Sort) -> bool>(cell: Cell<D>, keeps: F) -> Cell<D>
     requires { F.IsAlwaysCallable keeps }
-    ensures { (f : _) → Computes (F.post keeps) f → result ≡ kept_by D.ops f cell }
+    ensures { OfSorts (F.post keeps) (only D.ops cell) result }
 {
     cell.only(keeps(Sort::Unset), keeps(Sort::Bool), keeps(Sort::Int))
 }
