@@ -1,5 +1,4 @@
 // The current result and the table of values.
-use crate::slot::Slot;
 use cells::value::Value;
 
 pub mod access;
@@ -11,5 +10,5 @@ pub mod perform;
 #[derive(Clone, Copy)]
 pub struct Registers {
     cr: Value,
-    slots: [Slot; 64],
+    slots: [Value; 64],
 }
