@@ -6,7 +6,7 @@ pub mod cover;
 pub mod lists;
 pub mod perform;
 
-// The first slots are the variables'; the others stay unset.
+// The first slots are the variables'; the others stay unset. The variables are the program's, and come with each call: no copy is kept.
 #[derive(Clone, Copy)]
 pub struct Registers {
     cr: Value,
