@@ -1,5 +1,5 @@
 -- Two tables of the right size: the same calls give controllers that are alike.
-use Rattle.std.proofs.Common.{◌≡◌, ℕ, ◌+◌, Bool as Truth, true, false, cond, not, eqb, List, [], ◌∷◌, length, ℤ, Some, None, Ok, Err, Option, Result, sym, refl, ap, ◌∙◌, subst, arith}
+use Rattle.std.proofs.Common.{◌≡◌, ℕ, ◌+◌, Bool as Truth, true, false, cond, not, eqb, List, [], ◌∷◌, length, ℤ, Some, None, Ok, Err, Option, Result, sym, refl, ap, ◌∙◌, subst}
 use Rattle.std.proofs.lemmas.Bool.{eq-eqb}
 use Rattle.domain.specs.Domain.{Ops}
 use Rattle.syntax.specs.declared.record.Operation.{Operation}
@@ -50,8 +50,8 @@ module _ (p : Code) (f : Phase) (k : ℕ) (s : State) (t u : Tally) (e : t.steps
   counted-alike x y true true d = same
   counted-alike x y false false d =
       advanced-alike x y (operation_at p.statements k) (perform p.variables (operation_at p.statements k) s)
-  counted-alike x y true false d = let z : ◌≡◌ {A = ℕ} 0 1 = cc in absurd (omega arith)
-  counted-alike x y false true d = let z : ◌≡◌ {A = ℕ} 0 1 = cc in absurd (omega arith)
+  counted-alike x y true false d = absurd cc
+  counted-alike x y false true d = absurd cc
 
   sized : (x : Sight) (m : Machine) → x.size ≡ table_size p → (step_reply p x m).next ≡ (cond (is_full m.counts) (refused (StepsFull m.at) m) (done (stepped p x m))).next
   sized x m h =

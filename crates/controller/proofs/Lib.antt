@@ -1,4 +1,4 @@
-pub mod Slots
+pub mod Classed
 pub mod Turns
 pub mod Steps
 pub mod Covers

@@ -12,6 +12,11 @@ use Rattle.cells.specs.declared.value.Value.TheVariants.{Unset, Bool, Int}
 use Rattle.cells.specs.Values.{value_of}
 use Rattle.meaning.specs.Meaning.{State}
 
+abbrev pub is_local : Class → Truth
+is_local Local = true
+is_local Input = false
+is_local Output = false
+
 abbrev pub is_input : Class → Truth
 is_input Local = false
 is_input Input = true
@@ -22,17 +27,24 @@ is_output Local = false
 is_output Input = false
 is_output Output = true
 
+abbrev pub same_class : Class → Class → Truth
+same_class Local c = is_local c
+same_class Input c = is_input c
+same_class Output c = is_output c
+
 abbrev pub one : Truth → ℕ
 one b = cond b 1 0
 
--- how many inputs and how many outputs there are
+-- how many variables have a class, how many are inputs and how many are outputs
+abbrev pub class_count : Class → List Variable → ℕ
+class_count c [] = 0
+class_count c (v ∷ vs) = one (same_class c v.declaration.class) + class_count c vs
+
 abbrev pub input_count : List Variable → ℕ
-input_count [] = 0
-input_count (v ∷ vs) = one (is_input v.declaration.class) + input_count vs
+input_count vs = class_count Input vs
 
 abbrev pub output_count : List Variable → ℕ
-output_count [] = 0
-output_count (v ∷ vs) = one (is_output v.declaration.class) + output_count vs
+output_count vs = class_count Output vs
 
 -- a number lies between two others, or is one of them
 abbrev pub between : ℤ → ℤ → ℤ → Truth

@@ -1,6 +1,4 @@
 // What is asked of a controller.
-ghost use Rattle.std.specs.Prelude.{◌≡◌};
-
 use transfer::marks::Marks;
 
 // What a step sees of its table: how many cells it has, and in the row before its statement whether that covers the values, and the marks.
@@ -18,24 +16,4 @@ pub enum Call<'a> {
     Step(Sight),
     Restart,
     Read,
-}
-
-impl<'a> Call<'a> {
-    pub(crate) fn step(sight: Sight) -> Call<'a>
-        ensures { result ≡ Call.Step sight }
-    {
-        Call::Step(sight)
-    }
-
-    pub(crate) fn restart() -> Call<'a>
-        ensures { result ≡ Call.Restart }
-    {
-        Call::Restart
-    }
-
-    pub(crate) fn read() -> Call<'a>
-        ensures { result ≡ Call.Read }
-    {
-        Call::Read
-    }
 }

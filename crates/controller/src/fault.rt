@@ -40,11 +40,11 @@ impl CallFault {
         ensures { result ≡ place_of self.now }
     {
         match self {
-            CallFault::WrongSize(place) => *place,
-            CallFault::NotWaiting(place) => *place,
-            CallFault::NotRunning(place) => *place,
-            CallFault::StepsFull(place) => *place,
-            CallFault::BadInput(place) => *place,
+            CallFault::WrongSize(place)
+            | CallFault::NotWaiting(place)
+            | CallFault::NotRunning(place)
+            | CallFault::StepsFull(place)
+            | CallFault::BadInput(place) => *place,
         }
     }
 }

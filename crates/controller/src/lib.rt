@@ -2,6 +2,7 @@
 #![tactic(auto)]
 
 mod call;
+mod classes;
 pub mod controller;
 pub mod counts;
 pub mod fault;
@@ -9,7 +10,6 @@ mod inputs;
 mod outputs;
 pub mod phase;
 mod registers;
-mod slot;
 
 pub use controller::Controller;
 pub use counts::Counts;

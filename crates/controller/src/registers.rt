@@ -1,5 +1,4 @@
 // The current result and the table of values.
-use crate::slot::Slot;
 use cells::value::Value;
 
 pub mod access;
@@ -7,9 +6,9 @@ pub mod cover;
 pub mod lists;
 pub mod perform;
 
-// The first slots are the variables'; the others stay unset.
+// The first slots are the variables'; the others stay unset. The variables are the program's, and come with each call: no copy is kept.
 #[derive(Clone, Copy)]
 pub struct Registers {
     cr: Value,
-    slots: [Slot; 64],
+    slots: [Value; 64],
 }

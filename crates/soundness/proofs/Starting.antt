@@ -21,7 +21,7 @@ use Rattle.controller.specs.Lists.{is_input, one, takes, value_for, refuses, fir
 use Rattle.soundness.proofs.Sizes.{AllSized}
 
 pub none-bad : (b : Truth) (k : ℕ) (rest : Option ℕ) → cond b (Some k) rest ≡ None → (b ≡ false) × (rest ≡ None)
-none-bad true k rest e = absurd (let z : ◌≡◌ {A = ℕ} 0 1 = cc in omega arith)
+none-bad true k rest e = absurd cc
 none-bad false k rest e = (refl, e)
 
 le-told : (a b : ℤ) → le_z a b ≡ true → a ≤ℤ b

@@ -1,4 +1,4 @@
-// The promise of a table that passes, at intervals and at lists.
+// The promise of a table that passes, at intervals and at lists: one function made for each, so that the promise can be read of sets that are named.
 ghost use Rattle.program.specs.Model.{code};
 ghost use Rattle.interval.specs.Interval.{interval_ops};
 ghost use Rattle.list.specs.NumberList.{list_ops};

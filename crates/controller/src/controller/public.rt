@@ -17,8 +17,7 @@ impl Controller<'_> {
         ensures reply { Replied (reply (code_of self.old) (to_start numbers.now) (machine self.old)) self.old self.new result }
         ensures laws { StartLaws (machine self.old) (machine self.new) result }
     {
-        let mut none = [0i32; 0];
-        self.dispatch(Call::Start(numbers), &mut none)
+        self.dispatch(Call::Start(numbers), &mut [])
     }
 
     // Runs one statement beside a table, whether that passed the check or not, and counts what the table did not foresee.
@@ -28,9 +27,8 @@ impl Controller<'_> {
         ensures laws { StepLaws (machine self.old) (machine self.new) result }
         ensures alike { RunsAlike D.ops (code_of self.old) }
     {
-        let mut none = [0i32; 0];
         let sight = self.look(cells);
-        self.dispatch(Call::step(sight), &mut none)
+        self.dispatch(Call::Step(sight), &mut [])
     }
 
     // Makes the controller as new, but for its counts.
@@ -38,8 +36,7 @@ impl Controller<'_> {
         ensures next { machine self.new ≡ fresh (code_of self.old) (machine self.old).counts }
         ensures same { code_of self.new ≡ code_of self.old }
     {
-        let mut none = [0i32; 0];
-        let _ = self.dispatch(Call::restart(), &mut none);
+        let _ = self.dispatch(Call::Restart, &mut []);
     }
 
     // Writes the outputs in declared order, BOOLs as 0 or 1.
@@ -48,6 +45,6 @@ impl Controller<'_> {
         ensures output { out.new ≡ output (code_of self.old) (to_read (length out.old)) (machine self.old) out.old }
         ensures unchanged { machine self.new ≡ machine self.old }
     {
-        self.dispatch(Call::read(), out)
+        self.dispatch(Call::Read, out)
     }
 }

@@ -1,28 +1,13 @@
 // One statement run and counted.
-ghost use Rattle.std.specs.Prelude.{◌≡◌, ◌+◌, ◌<◌, ◌≤◌, length};
-ghost use Rattle.transfer.specs.Transfer.{target_of};
+ghost use Rattle.std.specs.Prelude.{◌≡◌};
 ghost use Rattle.controller.specs.Machine.{machine, code_of, phase_after, stepped};
 
 use super::Controller;
 use crate::call::Sight;
 use crate::phase::Phase;
-use meaning::edge::Edge;
 use syntax::record::Operation;
 use table::rows::operation_at;
-
-// The statement that a way on leads to.
-fn target(index: usize, operation: Operation, edge: Edge) -> usize
-    requires { index ≤ 1024 }
-    ensures { result ≡ target_of index operation edge }
-{
-    match edge {
-        Edge::Fall => index + 1,
-        Edge::Jump => match operation {
-            Operation::Jump(_, target) => target.statement,
-            _ => 0,
-        },
-    }
-}
+use transfer::carry::target;
 
 // A return ends the scan.
 fn phase_after(operation: Operation) -> Phase

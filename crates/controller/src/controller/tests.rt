@@ -10,7 +10,6 @@ use transfer::marks::Marks;
 
 // A step beside a table of so many cells that covers everything.
 fn step(controller: &mut Controller, size: usize) -> Result<(), CallFault> {
-    let mut none = [0i32; 0];
     let marks = Marks {
         overflow: true,
         zero_divisor: true,
@@ -18,12 +17,12 @@ fn step(controller: &mut Controller, size: usize) -> Result<(), CallFault> {
         unreachable: false,
     };
     controller.dispatch(
-        Call::step(Sight {
+        Call::Step(Sight {
             size,
             covered: true,
             marks,
         }),
-        &mut none,
+        &mut [],
     )
 }
 

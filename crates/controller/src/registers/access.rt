@@ -1,45 +1,22 @@
 // One slot of a table read or changed.
-ghost use Rattle.std.specs.Prelude.{◌≡◌, true, false, set as changed_at, slice_index_or};
-ghost use Rattle.cells.specs.declared.value.Value.TheVariants.{Unset, Bool as truth};
-ghost use Rattle.controller.specs.Registers.{values_in};
+ghost use Rattle.std.specs.Prelude.{◌≡◌, set as changed_at, slice_index_or};
+ghost use Rattle.cells.specs.declared.value.Value.TheVariants.{Unset};
 
-use crate::slot::Slot;
 use cells::value::Value;
 
 // The value of a slot; unset where there is none.
-pub(crate) fn read(slots: &[Slot], index: usize) -> Value
-    ensures { result ≡ slice_index_or (values_in slots.now) index Unset }
+pub(crate) fn read(slots: &[Value], index: usize) -> Value
+    ensures { result ≡ slice_index_or slots.now index Unset }
 {
-    if index < slots.len() {
-        slots[index].value()
-    } else {
-        Value::Unset
-    }
+    slots.get(index).copied().unwrap_or(Value::Unset)
 }
 
-// ST: a value into a slot.
-pub(crate) fn store(slots: &mut [Slot], index: usize, value: Value)
-    ensures { values_in slots.new ≡ changed_at (values_in slots.old) index value }
+// A value into a slot, if there is one.
+pub(crate) fn store(slots: &mut [Value], index: usize, value: Value)
+    ensures { slots.new ≡ changed_at slots.old index value }
 {
+    // by index: after a loan by get_mut a proof knows the length of the slots, and none of their values
     if index < slots.len() {
-        slots[index].store(value);
-    }
-}
-
-// S: TRUE into it.
-pub(crate) fn set(slots: &mut [Slot], index: usize)
-    ensures { values_in slots.new ≡ changed_at (values_in slots.old) index (truth true) }
-{
-    if index < slots.len() {
-        slots[index].set();
-    }
-}
-
-// R: FALSE into it.
-pub(crate) fn reset(slots: &mut [Slot], index: usize)
-    ensures { values_in slots.new ≡ changed_at (values_in slots.old) index (truth false) }
-{
-    if index < slots.len() {
-        slots[index].reset();
+        slots[index] = value;
     }
 }

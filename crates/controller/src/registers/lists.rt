@@ -1,36 +1,34 @@
 // Many values written or shown: initial ones, those that inputs are given, and those of outputs.
 ghost use Rattle.std.specs.Prelude.{◌≡◌, ◌+◌, ◌≤◌, length, if◌then◌else◌, slice_set};
 ghost use Rattle.cells.specs.declared.value.Value.TheVariants.{Unset};
-ghost use Rattle.controller.specs.Registers.{held, values_in};
-ghost use Rattle.controller.specs.Lists.{is_output, one as one_for, output_count, given, begun, initially, shown_as, shown};
+ghost use Rattle.controller.specs.Registers.{held};
+ghost use Rattle.controller.specs.Lists.{one as one_for, output_count, given, begun, initially, shown_as, shown};
 
 use super::Registers;
-use crate::inputs::{enter, is_input, one};
-use crate::outputs::{is_output, show};
-use crate::slot::Slot;
+use super::access::{read, store};
+use crate::inputs::{enter, number_at};
+use crate::outputs::show;
 use cells::value::Value;
-use syntax::record::Variable;
+use syntax::record::{Class, Variable};
 
 // The initial values into the variables' slots.
-fn write_initial(slots: &mut [Slot], variables: &[Variable])
-    requires { length variables.now ≤ length slots.old }
-    ensures { values_in slots.new ≡ begun variables.now (values_in slots.old) }
+fn write_initial(slots: &mut [Value], variables: &[Variable])
+    ensures { slots.new ≡ begun variables.now slots.old }
 {
-    for i in 0..variables.len() {
-        slots[i].store(Value::from(variables[i].declaration().initial));
+    for (i, variable) in variables.iter().enumerate() {
+        store(slots, i, Value::from(variable.declaration().initial));
     }
 }
 
 // The numbers into the inputs' slots.
-fn write_inputs(slots: &mut [Slot], variables: &[Variable], numbers: &[i32])
-    requires { length variables.now ≤ length slots.old }
-    ensures { values_in slots.new ≡ given numbers.now 0 variables.now (values_in slots.old) }
+fn write_inputs(slots: &mut [Value], variables: &[Variable], numbers: &[i32])
+    ensures { slots.new ≡ given numbers.now 0 variables.now slots.old }
 {
     let mut position = 0;
-    for i in 0..variables.len() {
-        let value = enter(&variables[i], numbers, position, slots[i].value());
-        slots[i].store(value);
-        position += one(is_input(variables[i].declaration().class));
+    for (i, variable) in variables.iter().enumerate() {
+        let value = enter(variable, number_at(numbers, position), read(slots, i));
+        store(slots, i, value);
+        position += usize::from(variable.declaration().class == Class::Input);
     }
 }
 
@@ -49,24 +47,23 @@ fn write_output(out: &mut [i32], place: usize, output: bool, value: Value) -> us
 }
 
 // The outputs' values into a list that is as long.
-fn write_outputs(slots: &[Slot], variables: &[Variable], out: &mut [i32])
-    requires { (length variables.now ≤ length slots.now) × (length out.old ≡ output_count variables.now) }
-    ensures { out.new ≡ shown variables.now (values_in slots.now) }
+fn write_outputs(slots: &[Value], variables: &[Variable], out: &mut [i32])
+    requires { length out.old ≡ output_count variables.now }
+    ensures { out.new ≡ shown variables.now slots.now }
 {
     let mut place = 0;
-    for i in 0..variables.len() {
-        let output = is_output(variables[i].declaration().class);
-        place = write_output(out, place, output, slots[i].value());
+    for (i, variable) in variables.iter().enumerate() {
+        let output = variable.declaration().class == Class::Output;
+        place = write_output(out, place, output, read(slots, i));
     }
 }
 
 impl Registers {
     // The variables' initial values, and no current result.
     pub(crate) fn initial(variables: &[Variable]) -> Registers
-        requires { length variables.now ≤ 64 }
         ensures { held result ≡ initially variables.now }
     {
-        let mut slots = [Slot::UNSET; 64];
+        let mut slots = [Value::Unset; 64];
         write_initial(&mut slots, variables);
         Registers {
             cr: Value::Unset,
@@ -76,7 +73,6 @@ impl Registers {
 
     // A scan starts with these numbers.
     pub(crate) fn enter(&mut self, variables: &[Variable], numbers: &[i32])
-        requires { length variables.now ≤ 64 }
         ensures { held self.new ≡ record { cr = Unset; values = given numbers.now 0 variables.now (held self.old).values } }
     {
         write_inputs(&mut self.slots, variables, numbers);
@@ -85,7 +81,7 @@ impl Registers {
 
     // The outputs' values.
     pub(crate) fn show(&self, variables: &[Variable], out: &mut [i32])
-        requires { (length variables.now ≤ 64) × (length out.old ≡ output_count variables.now) }
+        requires { length out.old ≡ output_count variables.now }
         ensures { out.new ≡ shown variables.now (held self.now).values }
     {
         write_outputs(&self.slots, variables, out);

@@ -1,10 +1,10 @@
 // One statement carried out on values.
 ghost use Rattle.std.specs.Prelude.{◌≡◌};
-ghost use Rattle.meaning.specs.Meaning.{operand as operand_for, stored, jumps as jumps_on, with_result, performed, perform as meant};
+ghost use Rattle.meaning.specs.Meaning.{operand as operand_for, stored, jumps as jumps_on, performed, perform as meant};
 ghost use Rattle.controller.specs.Registers.{held, Performed};
 
 use super::Registers;
-use super::access::{read, reset, set, store as store_in};
+use super::access::{read, store as store_in};
 use cells::value::Value;
 use meaning::accepts::accepts;
 use meaning::compute::{Cause, compute, negate, truth};
@@ -45,27 +45,14 @@ impl Registers {
             Store::Stn => store_in(&mut self.slots, index, negate(cr)),
             Store::Set => {
                 if truth(cr) {
-                    set(&mut self.slots, index);
+                    store_in(&mut self.slots, index, Value::Bool(true));
                 }
             }
             Store::Reset => {
                 if truth(cr) {
-                    reset(&mut self.slots, index);
+                    store_in(&mut self.slots, index, Value::Bool(false));
                 }
             }
-        }
-    }
-
-    // An operator's value becomes the current result.
-    fn apply(&mut self, res: Result<Value, Cause>) -> Result<Edge, Cause>
-        ensures { Performed (with_result (held self.old) res) (held self.old) (held self.new) result }
-    {
-        match res {
-            Ok(value) => {
-                self.cr = value;
-                Ok(Edge::Fall)
-            }
-            Err(cause) => Err(cause),
         }
     }
 
@@ -84,7 +71,10 @@ impl Registers {
                 Ok(Edge::Fall)
             }
             Operation::Label(_) => Ok(Edge::Fall),
-            Operation::Apply(operator, _) => self.apply(compute(operator, cr, operand)),
+            Operation::Apply(operator, _) => {
+                self.cr = compute(operator, cr, operand)?;
+                Ok(Edge::Fall)
+            }
             Operation::Store(store, index) => {
                 self.change(store, index);
                 Ok(Edge::Fall)

@@ -1,20 +1,18 @@
-use Rattle.std.proofs.Common.{◌+◌, sym, ap, ◌∙◌, arith}
-use Rattle.controller.specs.Lists.{is_input, one}
-use Rattle.controller.proofs.Turns.{bad-found, bad-passed, bad-none}
+use Rattle.std.proofs.Common.{zip, rules, tests, ◌∙◌, arith}
+use Rattle.std.proofs.lemmas.Iterator.{YieldsList-from_slice, YieldsList-from_zip}
+use Rattle.std.proofs.lemmas.Iterator.Consumers.{YieldsList-at, YieldsList-from_filter}
+use Rattle.std.proofs.lemmas.Iterator.Search.{position_from_yields_List}
+use Rattle.std.proofs.lemmas.Iterator.Adapters.{position_from-zero}
+use Rattle.controller.specs.Lists.{is_input}
+use Rattle.controller.proofs.Classed.{inputs, untaken, bad-at}
 use Rattle.controller.proofs.inputs.first_bad.Goals as goal
 
-pub returns-then-refuses : goal.returns-then-refuses
-returns-then-refuses c =
-    let vs = c.args.variables.now in
-    sym (bad-found vs c.loop-i.i c.args.numbers.now c.loop-i.position c.loop-i-test.true (sym c.if-refuses.ensures)) ∙ c.loop-i.invariant.0
-
-pub loop-i-preserved : goal.loop-i-preserved
-loop-i-preserved c =
-    let vs = c.args.variables.now in
-    let e = c.one-position.ensures.is ∙ ap one (c.is_input.ensures ∙ ap (λ d. is_input d.class) c.declaration.ensures) in (
-      sym (bad-passed vs c.loop-i.i c.args.numbers.now c.loop-i.position (c.loop-i.position + c.one-position.result) c.loop-i-test.true (sym c.if-refuses.ensures) (ap (λ m. c.loop-i.position + m) e)) ∙ c.loop-i.invariant.0,
-      omega (arith, c.loop-i.invariant.1, c.one-position.ensures.most),
-    )
-
 pub returns : goal.returns
-returns c = sym (bad-none c.args.variables.now c.loop-i.i c.args.numbers.now c.loop-i.position c.loop-i-test.false) ∙ c.loop-i.invariant.0
+returns c =
+    let vs = c.args.variables.now in
+    let xs = c.args.numbers.now in
+    position_from_yields_List untaken c.position.new.self _ c.position.result c.position.ensures.ran
+    (YieldsList-from_zip (YieldsList-at c.zip.ensures.first (YieldsList-from_filter _ (λ v. is_input v.declaration.class) (YieldsList-from_slice vs cc) c.filter-inputs.ensures.closure (λ x r q k. search (rules, tests)))) (YieldsList-from_slice xs cc))
+    (λ x b q k. search (rules, tests))
+    ∙ position_from-zero untaken (zip (inputs vs) xs)
+    ∙ bad-at xs vs 0 (omega arith)
