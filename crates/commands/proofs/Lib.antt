@@ -1,2 +1,1 @@
-pub mod Early
 pub mod Readback

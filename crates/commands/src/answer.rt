@@ -1,8 +1,13 @@
 // What a job answers: text for standard output, text for standard error, and whether it refused.
-ghost use Rattle.std.specs.Prelude.{◌≡◌, List, ◌++◌, length, IfOk, Some, None, string_bytes, codes, decimal};
-ghost use Rattle.commands.specs.Refusal.{refusal_of};
+ghost use Rattle.std.specs.Prelude.{◌≡◌, List, ◌++◌, length, IfOk, Some, None, string_bytes, codes, decimal, min};
+ghost use Rattle.script.specs.Lines.{refusal_text};
+ghost use Rattle.program.specs.Model.{memory};
+ghost use Rattle.commands.specs.Endings.{Ends};
+ghost use Rattle.commands.specs.Faults.{job_number, job_place};
+ghost use Rattle.commands.specs.Refusal.{refusal_in, refusal_of};
 
-use crate::explain::explain_listing;
+use crate::explain::{explain_fault, explain_listing};
+use crate::fault::{JobFault, Stop};
 use crate::judging::make_ready;
 use crate::listing::list_program;
 use options::request::Options;
@@ -10,51 +15,64 @@ use program::Program;
 use std::alloc::{AllocError, Global};
 use syntax::record::{Statement, Variable};
 
-// The number and the place of a refusal.
-#[derive(Clone, Copy)]
-pub struct Refusal {
-    pub number: u8,
-    pub place: usize,
-}
-
 #[derive(Drop)]
 pub struct Answer {
     pub output: String,
     pub note: String,
-    pub refusal: Option<Refusal>,
+    pub refusal: Option<JobFault>,
 }
 
-// A refusal is the last line of the output; its note is printed only where it was asked for.
-pub(crate) fn refused(
-    heap: Global,
-    number: u8,
-    place: usize,
-    explain: bool,
-    note: String,
-) -> Result<Answer, AllocError>
-    ensures refusal { IfOk result (λ a. a.refusal ≡ Some (record { number = number; place = place })) }
-    ensures output { IfOk result (λ a. string_bytes a.output ≡ codes "refused " ++ (decimal number ++ (codes " " ++ (decimal place ++ codes "\n")))) }
+// A refusal is the last line of the output.
+fn refused(heap: Global, fault: JobFault, note: String) -> Result<Answer, AllocError>
+    ensures refusal { IfOk result (λ a. a.refusal ≡ Some fault) }
+    ensures output { IfOk result (λ a. string_bytes a.output ≡ refusal_text (job_number fault) (job_place fault)) }
 {
-    let output = format!(in heap; "refused {number} {place}\n")?;
-    let refusal = Some(Refusal { number, place });
-    if explain {
-        Ok(Answer {
-            output,
-            note,
-            refusal,
-        })
-    } else {
-        Ok(Answer {
-            output,
-            note: String::new(heap),
-            refusal,
-        })
+    let number = fault.number();
+    let place = fault.place();
+    Ok(Answer {
+        output: format!(in heap; "refused {number} {place}\n")?,
+        note,
+        refusal: Some(fault),
+    })
+}
+
+// What a job answers by its ending; a refusal is explained only where that was asked for.
+pub(crate) fn conclude<E: From<AllocError>>(
+    heap: Global,
+    explain: bool,
+    text: &[u8],
+    input: &[u8],
+    program: &Program,
+    ending: Result<Answer, Stop<E>>,
+) -> Result<Answer, E>
+    ensures { (refusal : _) → Ends ending refusal → IfOk result (λ a. a.refusal ≡ refusal) }
+{
+    match ending {
+        Ok(answer) => Ok(answer),
+        Err(Stop::Failed(error)) => Err(error),
+        Err(Stop::Refused(fault)) => {
+            let note = if explain {
+                explain_fault(heap, text, input, program, fault)?
+            } else {
+                String::new(heap)
+            };
+            let answer = refused(heap, fault, note)?;
+            Ok(answer)
+        }
     }
 }
 
-fn listed(heap: Global, text: &[u8], program: &Program, explain: bool) -> Result<Answer, AllocError>
-    ensures { IfOk result (λ a. a.refusal ≡ None) }
+// Lists what was read of a program's text, with the ranges that the input sets.
+fn list_in(
+    heap: Global,
+    explain: bool,
+    text: &[u8],
+    input: &[u8],
+    program: &mut Program,
+) -> Result<Answer, Stop<AllocError>>
+    ensures { Ends result (refusal_in input.now (memory program.old)) }
 {
+    make_ready(program, input)?;
     let mut output = String::new(heap);
     list_program(heap, &mut output, text, program)?;
     if explain {
@@ -67,36 +85,13 @@ fn listed(heap: Global, text: &[u8], program: &Program, explain: bool) -> Result
     })
 }
 
-// Lists what was read of a program's text, with the ranges that the input sets.
-fn list_in(
-    heap: Global,
-    explain: bool,
-    text: &[u8],
-    input: &[u8],
-    variables: &mut [Variable],
-    statements: &mut [Statement],
-) -> Result<Answer, AllocError>
-    ensures { IfOk result (λ a. a.refusal ≡ refusal_of text.now input.now (length variables.old) (length statements.old)) }
-{
-    let mut program = Program::read(text, variables, statements);
-    match make_ready(heap, explain, text, input, &mut program)? {
-        Some(answer) => Ok(answer),
-        None => listed(heap, text, &program, explain),
-    }
-}
-
 // The job `list`, in as many records as the options say.
 pub fn list(heap: Global, options: Options, text: &[u8], input: &[u8]) -> Result<Answer, AllocError>
     ensures { IfOk result (λ a. a.refusal ≡ refusal_of text.now input.now options.variables options.statements) }
 {
     let mut variables = vec![in heap; Variable::BLANK; options.variables]?;
     let mut statements = vec![in heap; Statement::BLANK; options.statements]?;
-    list_in(
-        heap,
-        options.explain,
-        text,
-        input,
-        &mut variables,
-        &mut statements,
-    )
+    let mut program = Program::read(text, &mut variables, &mut statements);
+    let ending = list_in(heap, options.explain, text, input, &mut program);
+    conclude(heap, options.explain, text, input, &program, ending)
 }

@@ -4,6 +4,7 @@
 pub mod answer;
 pub mod checking;
 mod explain;
+pub mod fault;
 pub mod help;
 mod judging;
 mod lines;

@@ -81,12 +81,9 @@ fn variable_name(
 
 // The name of a jump's label, as it is declared.
 fn label_name(statements: &[Statement], target: Target) -> Name {
-    match statements.get(target.statement) {
-        Some(statement) => match statement.operation() {
-            Operation::Label(name) => name,
-            _ => target.name,
-        },
-        None => target.name,
+    match statements.get(target.statement).map(Statement::operation) {
+        Some(Operation::Label(name)) => name,
+        _ => target.name,
     }
 }
 
@@ -143,14 +140,10 @@ pub(crate) fn statement_line(
     variables: &[Variable],
     statements: &[Statement],
     number: usize,
+    statement: &Statement,
 ) -> Result<String, AllocError> {
-    match statements.get(number) {
-        Some(statement) => {
-            let line = line_of(text, statement.place());
-            let column = column_of(text, statement.place());
-            let words = operation_text(heap, text, variables, statements, statement.operation())?;
-            format!(in heap; "{number} {line}:{column} {words}\n")
-        }
-        None => Ok(String::new(heap)),
-    }
+    let line = line_of(text, statement.place());
+    let column = column_of(text, statement.place());
+    let words = operation_text(heap, text, variables, statements, statement.operation())?;
+    format!(in heap; "{number} {line}:{column} {words}\n")
 }

@@ -30,8 +30,8 @@ fn list_statements(
     let count = statements.len();
     let heading = format!(in heap; "statements {count}\n")?;
     out.push_str(heading.as_str())?;
-    for i in 0..statements.len() {
-        let line = statement_line(heap, text, variables, statements, i)?;
+    for (i, statement) in statements.iter().enumerate() {
+        let line = statement_line(heap, text, variables, statements, i, statement)?;
         out.push_str(line.as_str())?;
     }
     Ok(())

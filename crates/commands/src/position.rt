@@ -17,15 +17,10 @@ fn line_after(bytes: &[u8]) -> usize
     requires { length bytes.now ≤ 65535 }
     ensures { result ≡ line_after bytes.now }
 {
-    let mut line = 1;
-    for b in bytes {
-        if *b == b'\n' {
-            line += 1;
-        }
-    }
-    line
+    bytes.iter().filter(|b| **b == b'\n').count() + 1
 }
 
+// A loop, since the count of what stands behind the last line feed, taken from the back, got no proof.
 fn column_after(bytes: &[u8]) -> usize
     requires { length bytes.now ≤ 65535 }
     ensures { result ≡ column_after bytes.now }

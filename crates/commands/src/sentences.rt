@@ -1,6 +1,5 @@
 // A table and its marks in plain sentences.
 use crate::lines::name_text;
-use fixpoint::fault::SettleFault;
 use program::Program;
 use std::alloc::{AllocError, Global};
 use table_check::fault::CheckFault;
@@ -76,7 +75,7 @@ pub(crate) fn explain_check(
     fault: CheckFault,
 ) -> Result<String, AllocError> {
     match fault {
-        CheckFault::WrongSize(size) => format!(in heap; "table: {size} places are wanted\n"),
+        CheckFault::WrongSize(_) => format!(in heap; "table: {fault}\n"),
         CheckFault::NotWithin(place) => {
             let width = program.variables().len() + 1;
             let row = place / width;
@@ -90,21 +89,8 @@ pub(crate) fn explain_check(
 
 // Why the text of a table is refused.
 pub(crate) fn explain_table(heap: Global, fault: TableFault) -> Result<String, AllocError> {
-    let place = fault.place();
     match fault {
-        TableFault::TooLong => format!(in heap; "table: the text has more than 1048576 bytes\n"),
-        _ => format!(in heap;
-            "table, byte {place}: this word, or the end of the text, does not fit here\n"
-        ),
-    }
-}
-
-// Why there is no settled table.
-pub(crate) fn explain_settling(heap: Global, fault: SettleFault) -> Result<String, AllocError> {
-    match fault {
-        SettleFault::WrongSize(size) => format!(in heap; "table: {size} places are wanted\n"),
-        SettleFault::NotSettled(sweeps) => {
-            format!(in heap; "table: it did not settle in {sweeps} sweeps\n")
-        }
+        TableFault::TooLong => format!(in heap; "table: {fault}\n"),
+        TableFault::Misfit(place) => format!(in heap; "table, byte {place}: {fault}\n"),
     }
 }

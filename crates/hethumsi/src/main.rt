@@ -4,7 +4,8 @@
 use commands::answer::{Answer, list};
 use commands::help::USAGE;
 use options::parse;
-use options::request::{Job, Options, Request};
+use options::request::{Job, Options, WrongUse};
+use std::alloc::AllocError;
 use std::io::Read;
 use std::process::ExitCode;
 use std::{env, fs, io};
@@ -24,14 +25,31 @@ fn standard_input(rt: &HostRuntime) -> io::Result<Vec<u8>> {
     Ok(bytes)
 }
 
-fn failed() -> io::Error {
-    io::Error::from(io::ErrorKind::InvalidInput)
+// Why the program ends without what was asked for.
+#[derive(Clone, Copy)]
+enum Failure {
+    // the line asks for nothing, or for a file that can't be read: the usage is printed
+    WrongUse,
+    // what there is to say has been said, so it is told by the status alone
+    Told,
 }
 
-// A wrong use of the command line prints the usage, and nothing on standard output.
-fn wrong_use(rt: &HostRuntime) -> io::Result<()> {
-    eprint!(rt; "{USAGE}")?;
-    Err(failed())
+impl From<WrongUse> for Failure {
+    fn from(_fault: WrongUse) -> Failure {
+        Failure::WrongUse
+    }
+}
+
+impl From<io::Error> for Failure {
+    fn from(_error: io::Error) -> Failure {
+        Failure::Told
+    }
+}
+
+impl From<AllocError> for Failure {
+    fn from(_error: AllocError) -> Failure {
+        Failure::Told
+    }
 }
 
 // The file that the line names, the last word; `station.il` where it names none.
@@ -42,52 +60,55 @@ fn file_name(words: &[String], files: usize) -> &str {
     }
 }
 
-fn print_answer(rt: &HostRuntime, answer: &Answer) -> io::Result<()> {
+fn read_file(rt: &HostRuntime, file: &str) -> Result<Vec<u8>, Failure> {
+    match fs::read(rt, file) {
+        Ok(text) => Ok(text),
+        Err(_) => {
+            eprintln!(rt; "hethumsi: {file} can't be read")?;
+            Err(Failure::WrongUse)
+        }
+    }
+}
+
+fn print_answer(rt: &HostRuntime, answer: &Answer) -> Result<(), Failure> {
     let output = answer.output.as_str();
     let note = answer.note.as_str();
     print!(rt; "{output}")?;
     eprint!(rt; "{note}")?;
     match answer.refusal {
-        Some(_) => Err(failed()),
+        Some(_) => Err(Failure::Told),
         None => Ok(()),
     }
 }
 
-fn run_list(rt: &HostRuntime, options: Options, file: &str) -> io::Result<()> {
-    match fs::read(rt, file) {
-        Err(_) => {
-            eprintln!(rt; "hethumsi: {file} can't be read")?;
-            wrong_use(rt)
-        }
-        Ok(text) => {
-            let input = standard_input(rt)?;
-            let answer = list(rt.alloc(), options, &text, &input)?;
-            print_answer(rt, &answer)
-        }
-    }
+fn run_list(rt: &HostRuntime, options: Options, file: &str) -> Result<(), Failure> {
+    let text = read_file(rt, file)?;
+    let input = standard_input(rt)?;
+    let answer = list(rt.alloc(), options, &text, &input)?;
+    print_answer(rt, &answer)
 }
 
-fn carry_out(rt: &HostRuntime, request: Request, words: &[String]) -> io::Result<()> {
+fn print_usage(rt: &HostRuntime) -> Result<(), Failure> {
+    print!(rt; "{USAGE}")?;
+    Ok(())
+}
+
+fn run(rt: &HostRuntime) -> Result<(), Failure> {
+    let words = arguments(rt).map_err(|_| Failure::WrongUse)?;
+    let request = parse(&words)?;
     match request.job {
-        Job::Help => print!(rt; "{USAGE}"),
-        Job::List => run_list(rt, request.options, file_name(words, request.files)),
+        Job::Help => print_usage(rt),
+        Job::List => run_list(rt, request.options, file_name(&words, request.files)),
     }
 }
 
-fn run(rt: &HostRuntime) -> io::Result<()> {
-    match arguments(rt) {
-        Err(_) => wrong_use(rt),
-        Ok(words) => match parse(&words) {
-            Err(_) => wrong_use(rt),
-            Ok(request) => carry_out(rt, request, &words),
-        },
-    }
-}
-
-// What there is to say has been said, so an error is told by the status alone.
 fn main(rt: HostRuntime) -> ExitCode {
     match run(&rt) {
         Ok(()) => ExitCode::SUCCESS,
-        Err(_) => ExitCode::FAILURE,
+        Err(Failure::WrongUse) => {
+            let _ = eprint!(rt; "{USAGE}");
+            ExitCode::FAILURE
+        }
+        Err(Failure::Told) => ExitCode::FAILURE,
     }
 }

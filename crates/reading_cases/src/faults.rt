@@ -111,18 +111,15 @@ fn ranges_are_refused_where_they_do_not_fit(rt: HostRuntime) -> Result<(), Fail>
 }
 
 fn blanks(variables: &[Variable], statements: &[Statement]) -> usize {
-    let mut count = 0usize;
-    for variable in variables {
-        if variable.declaration().name.length == 0 {
-            count = count.saturating_add(1);
-        }
-    }
-    for statement in statements {
-        if statement.place() == 0 {
-            count = count.saturating_add(1);
-        }
-    }
-    count
+    let unnamed = variables
+        .iter()
+        .filter(|variable| variable.declaration().name.length == 0)
+        .count();
+    let unplaced = statements
+        .iter()
+        .filter(|statement| statement.place() == 0)
+        .count();
+    unnamed.saturating_add(unplaced)
 }
 
 #[test]

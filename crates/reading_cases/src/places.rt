@@ -30,9 +30,9 @@ pub(crate) fn expect(
     place: usize,
 ) -> Result<(), Fail> {
     match answer.refusal {
-        Some(refusal) => {
-            assert_eq!(rt; refusal.number, number);
-            assert_eq!(rt; refusal.place, place);
+        Some(fault) => {
+            assert_eq!(rt; fault.number(), number);
+            assert_eq!(rt; fault.place(), place);
             Ok(())
         }
         None => {

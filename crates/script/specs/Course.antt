@@ -1,5 +1,5 @@
 -- How a script goes: the controller and the text after each word, and the lines that it comes to.
-use Rattle.std.specs.Prelude.{◌≡◌, ℕ, zero, suc, List, [], ◌∷◌, ◌++◌, length, ℤ, Some, None, Ok, Err, codes, decimal, Option, Result}
+use Rattle.std.specs.Prelude.{◌≡◌, ℕ, zero, suc, List, [], ◌∷◌, ◌++◌, length, ℤ, Some, None, Ok, Err, codes, decimal, Option, Result, vec_items, string_bytes}
 use Rattle.domain.specs.Domain.{Ops}
 use Rattle.cells.specs.declared.cell.Cell.{Cell}
 use Rattle.words.specs.declared.word.WordFault.{WordFault}
@@ -7,14 +7,14 @@ use Rattle.words.specs.Words.{Lexeme, next_at}
 use Rattle.program.specs.Model.{Code}
 use Rattle.controller.specs.Lists.{output_count}
 use Rattle.controller.specs.Tallies.{Tally, none}
-use Rattle.controller.specs.Machine.{Machine, fresh}
+use Rattle.controller.specs.Machine.{Machine, machine, code_of, fresh}
+use Rattle.script.specs.declared.carrier.Carrier.{Carrier}
 use Rattle.script.specs.declared.pending.Pending.{Pending}
 use Rattle.script.specs.declared.pending.Pending.TheVariants.{Ranges}
 use Rattle.script.specs.declared.pending.Act.{Act}
 use Rattle.script.specs.declared.pending.Act.TheVariants.{Pass, Number, Call, Unknown}
-use Rattle.script.specs.declared.run.Refusal.{Refusal}
-use Rattle.script.specs.declared.run.Flow.{Flow}
-use Rattle.script.specs.declared.run.Flow.TheVariants.{On, Refused}
+use Rattle.script.specs.declared.fault.ScriptFault.{ScriptFault}
+use Rattle.script.specs.Faults.{script_number, script_place}
 use Rattle.script.specs.Lines.{refusal_text}
 use Rattle.script.specs.Words.{act_on}
 use Rattle.script.specs.Carried.{pending_told, text_after, machine_after, order_text, order_machine}
@@ -37,8 +37,8 @@ abbrev pub counts_text : Tally → List ℕ
 counts_text t = tally_text t.steps t.outside t.unmarked
 
 -- the last line: the refusal that ended the script, or the counts
-abbrev pub last_text : Tally → Option Refusal → List ℕ
-last_text t (Some r) = refusal_text r.number r.place
+abbrev pub last_text : Tally → Option ScriptFault → List ℕ
+last_text t (Some f) = refusal_text (script_number f) (script_place f)
 last_text t None = counts_text t
 
 module _ {S : Type 0} (o : Ops S) (p : Code) (cells : List (Cell S)) where
@@ -61,9 +61,9 @@ module _ {S : Type 0} (o : Ops S) (p : Code) (cells : List (Cell S)) where
   acted w (Some (Call a)) c = ordered (Call a) (closed w c)
   acted w (Some Unknown) c = closed w c
 
-  abbrev pub onwards : Flow → Course → (Pending → Course → Course) → Course
-  onwards (On w) c next = next w c
-  onwards (Refused r) c next = c
+  abbrev pub onwards : Result Pending ScriptFault → Course → (Pending → Course → Course) → Course
+  onwards (Ok w) c next = next w c
+  onwards (Err f) c next = c
 
   abbrev pub course_at : Result (Option (ℕ × Lexeme × ℕ)) WordFault → Pending → Course → (ℕ → Pending → Course → Course) → Course
   course_at (Err e) w c next = c
@@ -83,8 +83,11 @@ module _ {S : Type 0} (o : Ops S) (p : Code) (cells : List (Cell S)) where
   abbrev pub script_text : List ℕ → List ℕ
   script_text text = (script_course text).text ++ last_text (script_course text).machine.counts (script_refusal text)
 
--- the code's inputs, controller and lines are those of a course
-pub record Goes (want : Course) (xs : List ℤ) (m : Machine) (t : List ℕ) : Type 0 where
-  pub numbers : xs ≡ want.numbers
-  pub machine : m ≡ want.machine
-  pub text : t ≡ want.text
+-- what a carrier has come to
+abbrev pub course_of : {S : Type 0} → Carrier S → Course
+course_of k = course (vec_items k.numbers) (machine k.controller) (string_bytes k.output)
+
+-- a carrier keeps its program and its table
+pub record Stays {S : Type 0} (k k' : Carrier S) : Type 0 where
+  pub code : code_of k'.controller ≡ code_of k.controller
+  pub cells : k'.cells.now ≡ k.cells.now

@@ -1,3 +1,4 @@
+pub mod Faults
 pub mod Orders
 pub mod Lines
 pub mod Calls
@@ -5,3 +6,4 @@ pub mod Words
 pub mod Carried
 pub mod Script
 pub mod Course
+pub mod Endings

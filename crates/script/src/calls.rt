@@ -1,11 +1,12 @@
 // The calls, each with the line that tells what it came to.
 ghost use Rattle.std.specs.Prelude.{◌≡◌};
 ghost use Rattle.controller.specs.Machine.{machine, code_of};
+ghost use Rattle.script.specs.Lines.{stands_as, line_for as line_for_answer};
 ghost use Rattle.script.specs.Calls.{start_told, step_told, steps_told, scan_told, restart_told, ToldAs};
 
 use crate::line::{Line, line_for, standing};
 use cells::cell::Cell;
-use controller::{Controller, Phase};
+use controller::{CallFault, Controller, Phase};
 use domain::Domain;
 
 // The most steps of one scan.
@@ -32,21 +33,31 @@ pub(crate) fn restart(controller: &mut Controller) -> Line
 }
 
 // Takes so many steps, or fewer where the controller runs no more or a step is refused.
-fn take_steps<D: Domain>(controller: &mut Controller, cells: &[Cell<D>], most: u32) -> Line
-    ensures { ToldAs (steps_told D.ops (code_of controller.old) cells.now most (machine controller.old)) controller.old controller.new result }
+fn take_steps<D: Domain>(
+    controller: &mut Controller,
+    cells: &[Cell<D>],
+    most: u32,
+) -> Result<(), CallFault>
+    ensures { ToldAs (steps_told D.ops (code_of controller.old) cells.now most (machine controller.old)) controller.old controller.new (line_for_answer result (stands_as (machine controller.new))) }
 {
-    let mut left = most;
-    while left > 0 {
+    for _step in 0..most {
         match controller.phase() {
-            Phase::Running => match controller.step(cells) {
-                Ok(()) => left -= 1,
-                Err(fault) => return Line::Refused(fault),
-            },
-            Phase::Waiting => return standing(controller),
-            Phase::Stopped(_) => return standing(controller),
+            Phase::Running => controller.step(cells)?,
+            Phase::Waiting | Phase::Stopped(_) => break,
         }
     }
-    standing(controller)
+    Ok(())
+}
+
+fn start_and_step<D: Domain>(
+    controller: &mut Controller,
+    cells: &[Cell<D>],
+    numbers: &[i32],
+) -> Result<(), CallFault>
+    ensures { ToldAs (scan_told D.ops (code_of controller.old) cells.now numbers.now (machine controller.old)) controller.old controller.new (line_for_answer result (stands_as (machine controller.new))) }
+{
+    controller.start(numbers)?;
+    take_steps(controller, cells, MOST_STEPS)
 }
 
 // A start, then steps until the controller waits or stops; a refused start is all.
@@ -57,8 +68,6 @@ pub(crate) fn scan<D: Domain>(
 ) -> Line
     ensures { ToldAs (scan_told D.ops (code_of controller.old) cells.now numbers.now (machine controller.old)) controller.old controller.new result }
 {
-    match controller.start(numbers) {
-        Ok(()) => take_steps(controller, cells, MOST_STEPS),
-        Err(fault) => Line::Refused(fault),
-    }
+    let answer = start_and_step(controller, cells, numbers);
+    line_for(answer, standing(controller))
 }

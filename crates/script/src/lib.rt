@@ -2,11 +2,12 @@
 #![tactic(auto)]
 
 mod calls;
-mod carry;
+mod carrier;
+pub mod fault;
 mod line;
 mod order;
-mod outputs;
 mod pending;
 pub mod run;
 
+pub use fault::ScriptFault;
 pub use run::run_calls;

@@ -1,11 +1,11 @@
 // What a call is told to have come to.
-ghost use Rattle.std.specs.Prelude.{◌≡◌, IfOk, string_bytes};
+ghost use Rattle.std.specs.Prelude.{◌≡◌, Some};
 ghost use Rattle.controller.specs.Machine.{machine};
-ghost use Rattle.script.specs.Lines.{stands_as, line_for, cause_letter, place_text, stop_text, refusal_text, line_text};
+ghost use Rattle.script.specs.Lines.{stands_as, line_for, cause_letter, line_text};
 
 use controller::{CallFault, Controller, Phase};
 use meaning::compute::Cause;
-use std::alloc::{AllocError, Global};
+use std::fmt;
 
 #[derive(Clone, Copy)]
 pub enum Line {
@@ -51,36 +51,24 @@ fn cause_letter(cause: Option<Cause>) -> &'static str
     }
 }
 
-fn place_text(heap: Global, place: usize) -> Result<String, AllocError>
-    ensures { IfOk result (λ s. string_bytes s ≡ place_text place) }
-{
-    format!(in heap; "at {place}\n")
-}
+impl fmt::Display for Line {
+    ghost output = { λ line. Some (line_text line) };
 
-fn stop_text(heap: Global, place: usize, cause: Option<Cause>) -> Result<String, AllocError>
-    ensures { IfOk result (λ s. string_bytes s ≡ stop_text place cause) }
-{
-    let mut out = format!(in heap; "stopped {place} ")?;
-    out.push_str(cause_letter(cause))?;
-    out.push_str("\n")?;
-    Ok(out)
-}
-
-pub(crate) fn refusal_text(heap: Global, number: u8, place: usize) -> Result<String, AllocError>
-    ensures { IfOk result (λ s. string_bytes s ≡ refusal_text number place) }
-{
-    format!(in heap; "refused {number} {place}\n")
-}
-
-pub(crate) fn line_text(heap: Global, line: Line) -> Result<String, AllocError>
-    ensures { IfOk result (λ s. string_bytes s ≡ line_text line) }
-{
-    match line {
-        Line::Started => String::from_str(heap, "started\n"),
-        Line::Restarted => String::from_str(heap, "restarted\n"),
-        Line::At(place) => place_text(heap, place),
-        Line::Waiting => String::from_str(heap, "waiting\n"),
-        Line::Stopped(place, cause) => stop_text(heap, place, cause),
-        Line::Refused(fault) => refusal_text(heap, fault.number(), fault.place()),
+    fn fmt<W: fmt::Write>(&self, f: &mut fmt::Formatter<W>) -> fmt::Result {
+        match self {
+            Line::Started => write!(f, "started\n"),
+            Line::Restarted => write!(f, "restarted\n"),
+            Line::At(place) => write!(f, "at {place}\n"),
+            Line::Waiting => write!(f, "waiting\n"),
+            Line::Stopped(place, cause) => {
+                let letter = cause_letter(*cause);
+                write!(f, "stopped {place} {letter}\n")
+            }
+            Line::Refused(fault) => {
+                let number = fault.number();
+                let place = fault.place();
+                write!(f, "refused {number} {place}\n")
+            }
+        }
     }
 }

@@ -2,8 +2,6 @@
 ghost use Rattle.std.specs.Prelude.{◌≡◌};
 ghost use Rattle.script.specs.Orders.{order_named};
 
-use notation::numerals::same;
-
 #[derive(Clone, Copy)]
 pub enum Order {
     // starts a scan with the numbers that follow
@@ -18,17 +16,12 @@ pub enum Order {
 pub(crate) fn order_named(word: &[u8]) -> Option<Order>
     ensures { result ≡ order_named word.now }
 {
-    if same(word, b"start") {
-        Some(Order::Start)
-    } else if same(word, b"scan") {
-        Some(Order::Scan)
-    } else if same(word, b"step") {
-        Some(Order::Step)
-    } else if same(word, b"restart") {
-        Some(Order::Restart)
-    } else if same(word, b"read") {
-        Some(Order::Read)
-    } else {
-        None
+    match word {
+        b"start" => Some(Order::Start),
+        b"scan" => Some(Order::Scan),
+        b"step" => Some(Order::Step),
+        b"restart" => Some(Order::Restart),
+        b"read" => Some(Order::Read),
+        _ => None,
     }
 }

@@ -38,18 +38,14 @@ fn number_act(pending: Pending, bytes: &[u8]) -> Option<Act>
     match (pending, numbers::value(bytes)) {
         (Pending::Ranges, _) => Some(Act::Pass),
         (Pending::Nothing, _) => None,
-        (_, Some(number)) => Some(Act::Number(number)),
-        (_, None) => None,
+        (_, number) => number.map(Act::Number),
     }
 }
 
 fn name_act(name: &[u8]) -> Act
     ensures { result ≡ name_act (order_named name.now) }
 {
-    match order_named(name) {
-        Some(order) => Act::Call(order),
-        None => Act::Unknown,
-    }
+    order_named(name).map_or(Act::Unknown, Act::Call)
 }
 
 // What a word asks for; none where it does not fit.

@@ -10,7 +10,7 @@ pub enum TableFault {
     #[error("the text has more than 1048576 bytes")]
     TooLong,
     // a word that does not fit, or the end of the text
-    #[error("byte {0}: this word, or the end of the text, does not fit here")]
+    #[error("this word, or the end of the text, does not fit here")]
     Misfit(usize),
 }
 
