@@ -1,4 +1,5 @@
 pub mod Classed
+pub mod Slots
 pub mod Turns
 pub mod Steps
 pub mod Covers

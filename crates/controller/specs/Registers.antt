@@ -1,13 +1,21 @@
 -- The current result and the table of values, as plain data.
-use Rattle.std.specs.Prelude.{◌≡◌, Ok, Err, Result}
+use Rattle.std.specs.Prelude.{◌≡◌, List, map, Ok, Err, Result}
+use Rattle.cells.specs.declared.value.Value.{Value}
 use Rattle.meaning.specs.Meaning.{State}
 use Rattle.meaning.specs.declared.edge.Edge.{Edge}
 use Rattle.meaning.specs.declared.compute.Cause.{Cause}
+use Rattle.controller.specs.declared.slot.Slot.{Slot}
 use Rattle.controller.specs.declared.registers.Registers.{Registers}
+
+abbrev pub value_in : Slot → Value
+value_in s = s.value
+
+abbrev pub values_in : List Slot → List Value
+values_in ss = map value_in ss
 
 -- what the meaning of a statement works on
 abbrev pub held : Registers → State
-held r = record { cr = r.cr; values = r.slots }
+held r = record { cr = r.cr; values = values_in r.slots }
 
 -- the way on that a statement's meaning gives, or why it stops
 abbrev pub way_of : Result (Edge × State) Cause → Result Edge Cause

@@ -10,6 +10,7 @@ mod inputs;
 mod outputs;
 pub mod phase;
 mod registers;
+mod slot;
 
 pub use controller::Controller;
 pub use counts::Counts;

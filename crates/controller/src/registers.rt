@@ -1,4 +1,5 @@
 // The current result and the table of values.
+use crate::slot::Slot;
 use cells::value::Value;
 
 pub mod access;
@@ -10,5 +11,5 @@ pub mod perform;
 #[derive(Clone, Copy)]
 pub struct Registers {
     cr: Value,
-    slots: [Value; 64],
+    slots: [Slot; 64],
 }

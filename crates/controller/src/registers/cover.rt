@@ -4,17 +4,18 @@ ghost use Rattle.std.specs.List.{list_all, enumerate_from};
 ghost use Rattle.cells.specs.declared.value.Value.TheVariants.{Unset};
 ghost use Rattle.cells.specs.Cells.{covers};
 ghost use Rattle.transfer.specs.Rows.{covers_all};
-ghost use Rattle.controller.specs.Registers.{held};
+ghost use Rattle.controller.specs.Registers.{held, values_in};
 
 use super::Registers;
 use super::access::read;
+use crate::slot::Slot;
 use cells::cell::Cell;
 use cells::value::Value;
 use domain::Domain;
 
 // The current result at 0, and the slots' values after it.
-fn value_at(cr: Value, slots: &[Value], index: usize) -> Value
-    ensures { result ≡ slice_index_or (cr ∷ slots.now) index Unset }
+fn value_at(cr: Value, slots: &[Slot], index: usize) -> Value
+    ensures { result ≡ slice_index_or (cr ∷ values_in slots.now) index Unset }
 {
     if index == 0 {
         cr
@@ -24,8 +25,8 @@ fn value_at(cr: Value, slots: &[Value], index: usize) -> Value
 }
 
 // Whether each cell covers its value.
-fn covers_row<D: Domain>(row: &[Cell<D>], cr: Value, slots: &[Value]) -> bool
-    ensures { result ≡ list_all (λ p. covers D.ops p.1 (slice_index_or (cr ∷ slots.now) p.0 Unset)) (enumerate_from 0 row.now) }
+fn covers_row<D: Domain>(row: &[Cell<D>], cr: Value, slots: &[Slot]) -> bool
+    ensures { result ≡ list_all (λ p. covers D.ops p.1 (slice_index_or (cr ∷ values_in slots.now) p.0 Unset)) (enumerate_from 0 row.now) }
 {
     row.iter()
         .enumerate()

@@ -1,19 +1,20 @@
 // Many values written or shown: initial ones, those that inputs are given, and those of outputs.
 ghost use Rattle.std.specs.Prelude.{◌≡◌, ◌+◌, ◌≤◌, length, if◌then◌else◌, slice_set};
 ghost use Rattle.cells.specs.declared.value.Value.TheVariants.{Unset};
-ghost use Rattle.controller.specs.Registers.{held};
+ghost use Rattle.controller.specs.Registers.{held, values_in};
 ghost use Rattle.controller.specs.Lists.{one as one_for, output_count, given, begun, initially, shown_as, shown};
 
 use super::Registers;
 use super::access::{read, store};
 use crate::inputs::{enter, number_at};
 use crate::outputs::show;
+use crate::slot::Slot;
 use cells::value::Value;
 use syntax::record::{Class, Variable};
 
 // The initial values into the variables' slots.
-fn write_initial(slots: &mut [Value], variables: &[Variable])
-    ensures { slots.new ≡ begun variables.now slots.old }
+fn write_initial(slots: &mut [Slot], variables: &[Variable])
+    ensures { values_in slots.new ≡ begun variables.now (values_in slots.old) }
 {
     for (i, variable) in variables.iter().enumerate() {
         store(slots, i, Value::from(variable.declaration().initial));
@@ -21,8 +22,8 @@ fn write_initial(slots: &mut [Value], variables: &[Variable])
 }
 
 // The numbers into the inputs' slots.
-fn write_inputs(slots: &mut [Value], variables: &[Variable], numbers: &[i32])
-    ensures { slots.new ≡ given numbers.now 0 variables.now slots.old }
+fn write_inputs(slots: &mut [Slot], variables: &[Variable], numbers: &[i32])
+    ensures { values_in slots.new ≡ given numbers.now 0 variables.now (values_in slots.old) }
 {
     let mut position = 0;
     for (i, variable) in variables.iter().enumerate() {
@@ -47,9 +48,9 @@ fn write_output(out: &mut [i32], place: usize, output: bool, value: Value) -> us
 }
 
 // The outputs' values into a list that is as long.
-fn write_outputs(slots: &[Value], variables: &[Variable], out: &mut [i32])
+fn write_outputs(slots: &[Slot], variables: &[Variable], out: &mut [i32])
     requires { length out.old ≡ output_count variables.now }
-    ensures { out.new ≡ shown variables.now slots.now }
+    ensures { out.new ≡ shown variables.now (values_in slots.now) }
 {
     let mut place = 0;
     for (i, variable) in variables.iter().enumerate() {
@@ -63,7 +64,7 @@ impl Registers {
     pub(crate) fn initial(variables: &[Variable]) -> Registers
         ensures { held result ≡ initially variables.now }
     {
-        let mut slots = [Value::Unset; 64];
+        let mut slots = [Slot::UNSET; 64];
         write_initial(&mut slots, variables);
         Registers {
             cr: Value::Unset,

@@ -4,7 +4,7 @@ ghost use Rattle.meaning.specs.Meaning.{operand as operand_for, stored, jumps as
 ghost use Rattle.controller.specs.Registers.{held, Performed};
 
 use super::Registers;
-use super::access::{read, store as store_in};
+use super::access::{change, read};
 use cells::value::Value;
 use meaning::accepts::accepts;
 use meaning::compute::{Cause, compute, negate, truth};
@@ -39,21 +39,7 @@ impl Registers {
     fn change(&mut self, store: Store, index: usize)
         ensures { held self.new ≡ record { cr = (held self.old).cr; values = stored store index (held self.old) } }
     {
-        let cr = self.cr;
-        match store {
-            Store::St => store_in(&mut self.slots, index, cr),
-            Store::Stn => store_in(&mut self.slots, index, negate(cr)),
-            Store::Set => {
-                if truth(cr) {
-                    store_in(&mut self.slots, index, Value::Bool(true));
-                }
-            }
-            Store::Reset => {
-                if truth(cr) {
-                    store_in(&mut self.slots, index, Value::Bool(false));
-                }
-            }
-        }
+        change(&mut self.slots, index, store, self.cr);
     }
 
     // An operation on values that it accepts.
