@@ -23,6 +23,7 @@ pub struct Extent {
 }
 
 // A text, and the caller's records with what its words have put there so far.
+// Counts stand beside the slices, since the records lie in the caller's memory and are filled in place.
 #[derive(Drop)]
 pub(crate) struct Draft<'t, 'r> {
     text: &'t [u8],

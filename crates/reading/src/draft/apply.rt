@@ -66,7 +66,7 @@ impl<'t, 'r> Draft<'t, 'r> {
         }
     }
 
-    // There is a place for one statement more.
+    // There is a place for one statement more; apart from the one above, since slice, count, most and fault all differ.
     fn want_statement_place(&self, place: usize) -> Result<(), ProgramFault>
         ensures is { result ≡ if_statement_fits (draft self.now) place tt }
         ensures within { IfOk result (λ _. self.now.progress.statements < length self.now.statements.now) }
