@@ -12,7 +12,7 @@ use syntax::record::{Class, Constant, Variable};
 pub fn cell_at<D: Domain>(row: &[Cell<D>], index: usize) -> Cell<D>
     ensures { result ≡ slice_index_or row.now index (nothing D.ops) }
 {
-    row.get(index).copied().unwrap_or(Cell::nothing())
+    row.get(index).copied().unwrap_or_else(|| Cell::nothing())
 }
 
 // Whether some cell of the row is vacant.
