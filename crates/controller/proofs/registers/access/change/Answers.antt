@@ -11,7 +11,7 @@ pub returns-in-Stn : goal.returns-in-Stn
 returns-in-Stn c = let e = stored-within c.args.slots.now c.args.index c.store-in-Stn.new.self c.negate.result c.store-in-Stn.ensures in rw c.in-Stn.is (rw (← c.negate.ensures) e)
 
 pub returns-in-Set : goal.returns-in-Set
-returns-in-Set c = let e = stored-within c.args.slots.now c.args.index c.set.new.self (Bool true) c.set.ensures in rw c.in-Set.is (e ∙ sym (cond-true _ _ _ (sym c.if-truth.ensures ∙ c.if-truth.true)))
+returns-in-Set c = let e = stored-within c.args.slots.now c.args.index c.set.new.self (Bool true) c.set.ensures in rw c.in-Set.is (e ∙ sym (cond-true _ _ _ (sym c.if-truth.ensures)))
 
 pub returns-in-Reset : goal.returns-in-Reset
-returns-in-Reset c = let e = stored-within c.args.slots.now c.args.index c.reset.new.self (Bool false) c.reset.ensures in rw c.in-Reset.is (e ∙ sym (cond-true _ _ _ (sym c.if-truth-2.ensures ∙ c.if-truth-2.true)))
+returns-in-Reset c = let e = stored-within c.args.slots.now c.args.index c.reset.new.self (Bool false) c.reset.ensures in rw c.in-Reset.is (e ∙ sym (cond-true _ _ _ (sym c.if-truth-2.ensures)))
