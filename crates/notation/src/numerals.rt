@@ -1,15 +1,8 @@
 // Numbers as they are written in sets: digits, or a minus and digits.
 ghost use Rattle.std.specs.Prelude.{◌≡◌};
-ghost use Rattle.std.specs.Str.{bytes_eq};
 ghost use Rattle.notation.specs.Numerals.{is_numeral, numeral};
 
 use numbers::{Int, digits_only};
-
-pub fn same(a: &[u8], b: &[u8]) -> bool
-    ensures { result ≡ bytes_eq a.now b.now }
-{
-    a == b
-}
 
 // Whether digits follow a minus, if there is one.
 fn is_numeral(bytes: &[u8]) -> bool
