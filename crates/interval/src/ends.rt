@@ -8,7 +8,7 @@ ghost use Rattle.interval.specs.Interval.{ends, fitted};
 use crate::Interval;
 use numbers::Int;
 
-// The whole numbers from `low` to `high`.
+// The whole numbers from `low` to `high`. One type with `Interval`, over the number's type, would be no plainer: of what they do only the join of two lines is alike.
 #[derive(Clone, Copy)]
 pub(crate) struct Ends {
     pub low: i32,

@@ -20,6 +20,7 @@ use operations::{difference, product, quotient, sum};
 #[derive(Clone, Copy, PartialEq, Eq, Debug)]
 pub enum NumberList {
     Everything,
+    // A count beside an array, and no Vec: rows of sets are copied in sweeps, which have no heap.
     Numbers { count: u8, numbers: [Int; 8] },
 }
 
