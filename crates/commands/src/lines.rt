@@ -4,30 +4,9 @@ use crate::spelling::word_of;
 use reading::names::name_in;
 use std::alloc::{AllocError, Global};
 use syntax::operator::Command;
-use syntax::record::{Class, Constant, Name, Operand, Operation, Statement, Target, Variable};
-
-pub(crate) fn class_word(class: Class) -> &'static str {
-    match class {
-        Class::Local => "local",
-        Class::Input => "input",
-        Class::Output => "output",
-    }
-}
-
-fn kind_word(initial: Constant) -> &'static str {
-    match initial {
-        Constant::Bool(_) => "BOOL",
-        Constant::Int(_) => "INT",
-    }
-}
-
-fn constant_text(heap: Global, constant: Constant) -> Result<String, AllocError> {
-    match constant {
-        Constant::Bool(true) => String::from_str(heap, "TRUE"),
-        Constant::Bool(false) => String::from_str(heap, "FALSE"),
-        Constant::Int(n) => format!(in heap; "{n}"),
-    }
-}
+use syntax::record::{
+    Class, Constant, Declaration, Kind, Name, Operand, Operation, Statement, Target, Variable,
+};
 
 // The name as its text writes it: letters, digits and underscores, a character for each byte.
 pub(crate) fn name_text(heap: Global, text: &[u8], name: Name) -> Result<String, AllocError> {
@@ -44,9 +23,7 @@ fn range_text(heap: Global, variable: &Variable) -> Result<String, AllocError> {
     match (declaration.class, declaration.initial) {
         (Class::Input, Constant::Int(_)) => {
             let range = variable.range();
-            let low = range.low;
-            let high = range.high;
-            format!(in heap; " {low}..{high}")
+            format!(in heap; " {range}")
         }
         _ => Ok(String::new(heap)),
     }
@@ -58,11 +35,13 @@ pub(crate) fn variable_line(
     number: usize,
     variable: &Variable,
 ) -> Result<String, AllocError> {
-    let declaration = variable.declaration();
-    let class = class_word(declaration.class);
-    let kind = kind_word(declaration.initial);
-    let name = name_text(heap, text, declaration.name)?;
-    let initial = constant_text(heap, declaration.initial)?;
+    let Declaration {
+        name,
+        class,
+        initial,
+    } = variable.declaration();
+    let kind = Kind::from(initial);
+    let name = name_text(heap, text, name)?;
     let range = range_text(heap, variable)?;
     format!(in heap; "{number} {class} {kind} {name} := {initial}{range}\n")
 }
@@ -94,7 +73,7 @@ fn operand_text(
     operand: Operand,
 ) -> Result<String, AllocError> {
     match operand {
-        Operand::Constant(constant) => constant_text(heap, constant),
+        Operand::Constant(constant) => constant.to_string(heap),
         Operand::Variable(index) => variable_name(heap, text, variables, index),
     }
 }

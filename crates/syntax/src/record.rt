@@ -1,9 +1,11 @@
 // What a program is made of: plain records that lie in the caller's memory.
-ghost use Rattle.std.specs.Prelude.{◌≡◌};
+ghost use Rattle.std.specs.Prelude.{◌≡◌, Some};
 ghost use Rattle.syntax.specs.Records.{declared_as, ranged};
+ghost use Rattle.syntax.specs.Texts.{kind_of, class_text, kind_text, constant_text, range_text};
 
 use crate::operator::{Jump, Operator, Store};
 use numbers::Int;
+use std::fmt;
 
 // A name, kept by its place and its length in the text.
 #[derive(Clone, Copy)]
@@ -153,5 +155,60 @@ impl Statement {
         ensures { result ≡ self.now.place }
     {
         self.place
+    }
+}
+
+impl From<Constant> for Kind {
+    ghost from_gives = { λ constant kind. kind ≡ kind_of constant };
+
+    fn from(constant: Constant) -> Kind {
+        match constant {
+            Constant::Bool(_) => Kind::Bool,
+            Constant::Int(_) => Kind::Int,
+        }
+    }
+}
+
+impl fmt::Display for Class {
+    ghost output = { λ class. Some (class_text class) };
+
+    fn fmt<W: fmt::Write>(&self, f: &mut fmt::Formatter<W>) -> fmt::Result {
+        match self {
+            Class::Local => f.write_str("local"),
+            Class::Input => f.write_str("input"),
+            Class::Output => f.write_str("output"),
+        }
+    }
+}
+
+impl fmt::Display for Kind {
+    ghost output = { λ kind. Some (kind_text kind) };
+
+    fn fmt<W: fmt::Write>(&self, f: &mut fmt::Formatter<W>) -> fmt::Result {
+        match self {
+            Kind::Bool => f.write_str("BOOL"),
+            Kind::Int => f.write_str("INT"),
+        }
+    }
+}
+
+impl fmt::Display for Constant {
+    ghost output = { λ constant. Some (constant_text constant) };
+
+    fn fmt<W: fmt::Write>(&self, f: &mut fmt::Formatter<W>) -> fmt::Result {
+        match self {
+            Constant::Bool(true) => f.write_str("TRUE"),
+            Constant::Bool(false) => f.write_str("FALSE"),
+            Constant::Int(n) => write!(f, "{n}"),
+        }
+    }
+}
+
+impl fmt::Display for Range {
+    ghost output = { λ range. Some (range_text range) };
+
+    fn fmt<W: fmt::Write>(&self, f: &mut fmt::Formatter<W>) -> fmt::Result {
+        let Range { low, high } = *self;
+        write!(f, "{low}..{high}")
     }
 }
