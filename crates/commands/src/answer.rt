@@ -1,8 +1,9 @@
 // What a job answers: text for standard output, text for standard error, and whether it refused.
 ghost use Rattle.std.specs.Prelude.{◌≡◌, List, ◌++◌, length, IfOk, Some, None, string_bytes, codes, decimal, min};
 ghost use Rattle.script.specs.Lines.{refusal_text};
-ghost use Rattle.program.specs.Model.{memory};
-ghost use Rattle.commands.specs.Endings.{Ends};
+ghost use Rattle.program.specs.Model.{memory, read_memory};
+ghost use Rattle.reading.specs.Reading.{reading};
+ghost use Rattle.commands.specs.Endings.{Ends, EndsBy};
 ghost use Rattle.commands.specs.Faults.{job_number, job_place};
 ghost use Rattle.commands.specs.Refusal.{refusal_in, refusal_of};
 
@@ -37,7 +38,7 @@ fn refused(heap: Global, fault: JobFault, note: String) -> Result<Answer, AllocE
 }
 
 // What a job answers by its ending; a refusal is explained only where that was asked for.
-pub(crate) fn conclude<E: From<AllocError>>(
+fn conclude<E: From<AllocError>>(
     heap: Global,
     explain: bool,
     text: &[u8],
@@ -85,13 +86,29 @@ fn list_in(
     })
 }
 
-// The job `list`, in as many records as the options say.
-pub fn list(heap: Global, options: Options, text: &[u8], input: &[u8]) -> Result<Answer, AllocError>
-    ensures { IfOk result (λ a. a.refusal ≡ refusal_of text.now input.now options.variables options.statements) }
+// What a job answers that is carried out on the program of a text, in as many records as the options say.
+pub(crate) fn answer_by<E: From<AllocError>, J: FnOnce(&mut Program) -> Result<Answer, Stop<E>>>(
+    heap: Global,
+    options: Options,
+    text: &[u8],
+    input: &[u8],
+    job: J,
+) -> Result<Answer, E>
+    requires { J.IsAlwaysCallable job }
+    ensures { (want : _) → EndsBy J.FnOnce job want → IfOk result (λ a. a.refusal ≡ want (read_memory (reading text.now options.variables options.statements))) }
 {
     let mut variables = vec![in heap; Variable::BLANK; options.variables]?;
     let mut statements = vec![in heap; Statement::BLANK; options.statements]?;
     let mut program = Program::read(text, &mut variables, &mut statements);
-    let ending = list_in(heap, options.explain, text, input, &mut program);
+    let ending = job(&mut program);
     conclude(heap, options.explain, text, input, &program, ending)
+}
+
+// The job `list`, in as many records as the options say.
+pub fn list(heap: Global, options: Options, text: &[u8], input: &[u8]) -> Result<Answer, AllocError>
+    ensures { IfOk result (λ a. a.refusal ≡ refusal_of text.now input.now options.variables options.statements) }
+{
+    answer_by(heap, options, text, input, |program| {
+        list_in(heap, options.explain, text, input, program)
+    })
 }

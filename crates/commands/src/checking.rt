@@ -6,7 +6,7 @@ ghost use Rattle.table.specs.Tables.{table_size};
 ghost use Rattle.commands.specs.Judging.{check_ready, check_in, check_refusal};
 ghost use Rattle.commands.specs.Endings.{Ends};
 
-use crate::answer::{Answer, conclude};
+use crate::answer::{Answer, answer_by};
 use crate::fault::{JobFault, Stop};
 use crate::judging::{make_ready, write_judged};
 use cells::cell::Cell;
@@ -16,7 +16,6 @@ use options::request::Options;
 use program::Program;
 use std::alloc::{AllocError, Global};
 use std::io;
-use syntax::record::{Statement, Variable};
 use table_text::text::read_table;
 use transfer::marks::Marks;
 
@@ -80,9 +79,7 @@ pub fn check_table<D: Notation>(
 ) -> io::Result<Answer>
     ensures { IfOk result (λ a. a.refusal ≡ check_refusal D.Domain.ops D.Notation.read_as text.now input.now table.now options.variables options.statements) }
 {
-    let mut variables = vec![in rt.alloc(); Variable::BLANK; options.variables]?;
-    let mut statements = vec![in rt.alloc(); Statement::BLANK; options.statements]?;
-    let mut program = Program::read(text, &mut variables, &mut statements);
-    let ending = check_in::<D>(rt, options.explain, input, table, &mut program);
-    conclude(rt.alloc(), options.explain, text, input, &program, ending)
+    answer_by(rt.alloc(), options, text, input, |program| {
+        check_in::<D>(rt, options.explain, input, table, program)
+    })
 }

@@ -5,7 +5,7 @@ ghost use Rattle.program.specs.Model.{memory};
 ghost use Rattle.commands.specs.Running.{by_script, run_refusal_in, run_refusal};
 ghost use Rattle.commands.specs.Endings.{Ends};
 
-use crate::answer::{Answer, conclude};
+use crate::answer::{Answer, answer_by};
 use crate::checking::blank_cells;
 use crate::fault::{JobFault, Stop};
 use crate::sheets::sweeps_of;
@@ -16,7 +16,6 @@ use program::Program;
 use ranges::set_front;
 use script::run_calls;
 use std::alloc::{AllocError, Global};
-use syntax::record::{Statement, Variable};
 
 // What a script answers beside the table that the sweeps leave, settled or not.
 fn run_beside_proposed<D: Domain>(
@@ -60,9 +59,11 @@ pub fn run<D: Domain>(
 ) -> Result<Answer, AllocError>
     ensures { IfOk result (λ a. a.refusal ≡ run_refusal text.now input.now options.variables options.statements) }
 {
-    let mut variables = vec![in heap; Variable::BLANK; options.variables]?;
-    let mut statements = vec![in heap; Statement::BLANK; options.statements]?;
-    let mut program = Program::read(text, &mut variables, &mut statements);
-    let ending = run_in::<D>(heap, sweeps_of(options), input, &mut program);
-    conclude(heap, false, text, input, &program, ending)
+    let silent = Options {
+        explain: false,
+        ..options
+    };
+    answer_by(heap, silent, text, input, |program| {
+        run_in::<D>(heap, sweeps_of(options), input, program)
+    })
 }

@@ -4,7 +4,7 @@ ghost use Rattle.program.specs.Model.{code, memory};
 ghost use Rattle.commands.specs.Judging.{sheet_ready, sheet_in, sheet_refusal};
 ghost use Rattle.commands.specs.Endings.{Ends};
 
-use crate::answer::{Answer, conclude};
+use crate::answer::{Answer, answer_by};
 use crate::checking::{blank_cells, blank_marks};
 use crate::fault::{JobFault, Stop};
 use crate::judging::{make_ready, write_judged};
@@ -13,7 +13,6 @@ use notation::Notation;
 use options::request::Options;
 use program::Program;
 use std::io;
-use syntax::record::{Statement, Variable};
 
 // The most sweeps that can be allowed.
 const MOST_SWEEPS: usize = 65_535;
@@ -68,9 +67,7 @@ pub fn write_sheet<D: Notation>(
 ) -> io::Result<Answer>
     ensures { IfOk result (λ a. a.refusal ≡ sheet_refusal D.Domain.ops (min options.sweeps 65535) text.now input.now options.variables options.statements) }
 {
-    let mut variables = vec![in rt.alloc(); Variable::BLANK; options.variables]?;
-    let mut statements = vec![in rt.alloc(); Statement::BLANK; options.statements]?;
-    let mut program = Program::read(text, &mut variables, &mut statements);
-    let ending = sheet_in::<D>(rt, options, input, &mut program);
-    conclude(rt.alloc(), options.explain, text, input, &program, ending)
+    answer_by(rt.alloc(), options, text, input, |program| {
+        sheet_in::<D>(rt, options, input, program)
+    })
 }
