@@ -8,7 +8,7 @@ use Rattle.program.specs.Model.{Code}
 use Rattle.controller.specs.Machine.{code_of}
 use Rattle.script.specs.declared.carrier.Carrier.{Carrier}
 use Rattle.script.specs.declared.fault.Ending.{Ending}
-use Rattle.script.specs.declared.fault.Ending.TheVariants.{OutOfMemory, Refused}
+use Rattle.script.specs.declared.fault.Ending.TheVariants.{Failed, Refused}
 use Rattle.script.specs.declared.fault.ScriptFault.{ScriptFault}
 use Rattle.script.specs.declared.fault.ScriptFault.TheVariants.{Word}
 use Rattle.script.specs.declared.pending.Pending.{Pending}
@@ -75,7 +75,7 @@ module _ {S : Type 0} (o : Ops S) (p : Code) (cells : List (Cell S)) (text : Lis
         }
 
         pub left-stopped : (x : Ending) → Took (Err x) (flow_of w place word) d a → Ended (Err x) r d want
-        left-stopped OutOfMemory took = tt
+        left-stopped (Failed error) took = tt
         left-stopped (Refused f) took = (
           ap (λ f. flow_on f (refusal_from k text next)) took.0 ∙ refusal-next,
           took.1 ∙ same ∙ ap (λ f. onwards o p cells f (acted o p cells w (act_on w word) c) (course_from o p cells k text next)) took.0 ∙ course-next,

@@ -1,7 +1,7 @@
 // Why a script ends before its end.
 ghost use Rattle.std.specs.Prelude.{◌≡◌};
 ghost use Rattle.script.specs.declared.fault.ScriptFault.TheVariants.{Word};
-ghost use Rattle.script.specs.declared.fault.Ending.TheVariants.{OutOfMemory, Refused};
+ghost use Rattle.script.specs.declared.fault.Ending.TheVariants.{Failed, Refused};
 ghost use Rattle.script.specs.Faults.{script_number, script_place};
 
 use std::alloc::{AllocError, AllocFailed};
@@ -50,23 +50,23 @@ impl From<WordFault> for ScriptFault {
 // What stops the carrying out of a script: its fault, or no memory for its lines.
 #[derive(Clone, Copy)]
 pub enum Ending {
-    OutOfMemory,
+    Failed(AllocError),
     Refused(ScriptFault),
 }
 
 impl From<AllocError> for Ending {
-    ghost from_gives = { λ e r. r ≡ OutOfMemory };
+    ghost from_gives = { λ e r. r ≡ Failed e };
 
-    fn from(_error: AllocError) -> Ending {
-        Ending::OutOfMemory
+    fn from(error: AllocError) -> Ending {
+        Ending::Failed(error)
     }
 }
 
 impl<T: Drop> From<AllocFailed<T>> for Ending {
-    ghost from_gives = { λ e r. r ≡ OutOfMemory };
+    ghost from_gives = { λ e r. (x : _) × r ≡ Failed x };
 
-    fn from(_error: AllocFailed<T>) -> Ending {
-        Ending::OutOfMemory
+    fn from(error: AllocFailed<T>) -> Ending {
+        Ending::Failed(AllocError::from(error))
     }
 }
 

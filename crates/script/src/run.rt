@@ -32,7 +32,7 @@ pub fn run_calls<D: Domain>(
     let refusal = match carrier.take_words(text) {
         Ok(()) => None,
         Err(Ending::Refused(fault)) => Some(fault),
-        Err(Ending::OutOfMemory) => return Err(AllocError),
+        Err(Ending::Failed(error)) => return Err(error),
     };
     carrier.report(refusal)
 }
