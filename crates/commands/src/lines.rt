@@ -6,6 +6,7 @@ use std::alloc::{AllocError, Global};
 use syntax::operator::Command;
 use syntax::record::{Class, Constant, Name, Operand, Operation, Statement, Target, Variable};
 
+// The words of a listing: no other text prints a class, a kind or a constant, so they stand here as plainly as in a Display.
 pub(crate) fn class_word(class: Class) -> &'static str {
     match class {
         Class::Local => "local",
