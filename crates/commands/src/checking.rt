@@ -19,7 +19,7 @@ use std::io;
 use table_text::text::read_table;
 use transfer::marks::Marks;
 
-// Cells that allow nothing, a row for each statement.
+// Cells that allow nothing, a row for each statement; grown, since `vec!` clones a cell, and no proof says what a clone over any D is.
 pub(crate) fn blank_cells<D: Domain>(
     heap: Global,
     program: &Program,
