@@ -2,7 +2,7 @@
 ghost use Rattle.std.specs.Prelude.{◌≡◌, ◌≤◌, length};
 ghost use Rattle.commands.specs.Position.{before, line_after, column_after};
 
-const MOST_BYTES: usize = 65_535;
+use reading::fill::MOST_BYTES;
 
 // What stands before a place; no text that is read has a place beyond 65,535.
 fn bytes_before(text: &[u8], place: usize) -> &[u8]

@@ -66,6 +66,7 @@ impl<'p> Sweep<'p> {
         let source = from * width;
         let target = to * width;
         let mut changed = false;
+        // by index: both rows lie in the same cells, and can be one row
         for i in 0..width {
             let cell = given(i, cells[source + i]);
             changed |= take_in(&mut cells[target + i], cell, self.widening);

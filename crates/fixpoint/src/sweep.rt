@@ -83,6 +83,7 @@ impl<'p> Sweep<'p> {
             return false;
         }
         let mut changed = self.bring_start(cells);
+        // by number, which finds the row of a statement and of its targets
         for number in 0..self.statements.len() {
             changed |= self.bring_from(cells, number);
         }

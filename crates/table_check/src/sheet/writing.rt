@@ -20,6 +20,7 @@ impl<'c, 'p, D: Notation> Sheet<'c, 'p, D> {
 
     // Writes the sheet to standard output, a line for each statement.
     pub fn write_out(self, rt: &HostRuntime) -> io::Result<()> {
+        // by number, which the line begins with
         for k in 0..self.table.statements.len() {
             let line = self.line(rt.alloc(), k)?;
             let text = line.as_str();
