@@ -6,28 +6,9 @@ use table_check::fault::CheckFault;
 use table_text::fault::TableFault;
 use transfer::marks::Marks;
 
-fn overflow_sentence(marks: Marks) -> &'static str {
-    if marks.overflow {
-        "; its result can lie outside INT"
-    } else {
-        ""
-    }
-}
-
-fn zero_sentence(marks: Marks) -> &'static str {
-    if marks.zero_divisor {
-        "; its divisor can be 0"
-    } else {
-        ""
-    }
-}
-
-fn kind_sentence(marks: Marks) -> &'static str {
-    if marks.kind {
-        "; a value can be of a kind that it does not take"
-    } else {
-        ""
-    }
+// What follows of a sentence where it is meant.
+fn said_if(meant: bool, words: &'static str) -> &'static str {
+    if meant { words } else { "" }
 }
 
 // What the marks of a statement say; nothing where it has none.
@@ -38,9 +19,12 @@ fn marks_sentence(heap: Global, number: usize, marks: Marks) -> Result<String, A
     if marks.number() == 0 {
         return Ok(String::new(heap));
     }
-    let overflow = overflow_sentence(marks);
-    let zero = zero_sentence(marks);
-    let kind = kind_sentence(marks);
+    let overflow = said_if(marks.overflow, "; its result can lie outside INT");
+    let zero = said_if(marks.zero_divisor, "; its divisor can be 0");
+    let kind = said_if(
+        marks.kind,
+        "; a value can be of a kind that it does not take",
+    );
     format!(in heap; "Statement {number} can stop the controller{overflow}{zero}{kind}.\n")
 }
 

@@ -21,6 +21,7 @@ fn take_words<D: Notation>(text: &[u8], size: Size, cells: &mut [Cell<D>]) -> Re
         index: 0,
     };
     let mut gap = gap_from(text, 0);
+    // a cursor: each turn passes a word and a gap of any length
     while gap.end < text.len() {
         let after = word_end(text, gap.end);
         let word = Word {

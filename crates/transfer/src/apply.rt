@@ -18,7 +18,7 @@ fn truths<D: Domain>(can_be_false: bool, can_be_true: bool) -> Cell<D>
     }
 }
 
-// A cell of numbers.
+// A cell of numbers, written out: beside `..Cell::nothing()` a set would be made only to be dropped.
 fn numbers_only<D: Domain>(numbers: D) -> Cell<D>
     ensures { result ≡ numbers_only D.ops numbers }
 {

@@ -47,6 +47,7 @@ pub(crate) fn any_sort<F: Fn(Sort) -> bool>(test: F) -> bool
 }
 
 // Whether a current result of the sort is accepted with some part of the operand.
+// One function for both sides would be told the order of what is accepted: no plainer.
 fn keeps_left<D: Domain>(operation: Operation, right: Cell<D>, sort: Sort) -> bool
     ensures { result ≡ left_kept D.ops operation right sort }
 {
