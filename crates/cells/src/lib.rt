@@ -1,4 +1,4 @@
-// The values that a controller works on, cells that allow some of them, and rows of cells.
+// The values that a controller works on, and cells that allow some of them.
 #![tactic(auto)]
 
 pub mod cell;

@@ -1,4 +1,4 @@
-// The same in plain sentences.
+// What a job answers, in plain sentences.
 use crate::fault::JobFault;
 use crate::lines::name_text;
 use crate::position::{column_of, line_of};

@@ -61,7 +61,7 @@ impl JobFault {
 
 // What stops a job: a refusal, or that memory or printing failed.
 #[derive(Drop)]
-pub enum Stop<E> {
+pub(crate) enum Stop<E> {
     Failed(E),
     Refused(JobFault),
 }

@@ -1,4 +1,4 @@
-// The jobs that judge a table: one that passes is written out.
+// What the jobs do before and after they have a table: the ranges set, and a table judged and written out where it passes.
 ghost use Rattle.std.specs.Prelude.{◌≡◌, length, IfOk, None};
 ghost use Rattle.program.specs.Model.{code, memory};
 ghost use Rattle.table_check.specs.Sheets.{checked};

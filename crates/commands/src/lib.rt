@@ -1,4 +1,4 @@
-// What the program prints, as functions from bytes to text.
+// The jobs: what each answers, as text, and the sheets that two of them print.
 #![tactic(auto)]
 
 pub mod answer;

@@ -4,6 +4,7 @@ use program::Program;
 use std::alloc::{AllocError, Global};
 use syntax::record::{Statement, Variable};
 
+// The variables' lines and the statements' take different things: one loop for both would be given a closure that allocates.
 fn list_variables(
     heap: Global,
     out: &mut String,

@@ -1,4 +1,4 @@
-// How operators are spelled.
+// How operators are spelled: as text and not by Display, since `word_of` promises that it reads back.
 ghost use Rattle.std.specs.Prelude.{◌≡◌, Some};
 ghost use Rattle.syntax.specs.declared.operator.Command.TheVariants.{Apply, Store as Storing, Jump as Jumping};
 ghost use Rattle.syntax.specs.declared.token.Token.TheVariants.{Command as CommandToken};

@@ -7,7 +7,7 @@ pub mod cover;
 pub mod lists;
 pub mod perform;
 
-// The first slots are the variables'; the others stay unset. The variables are the program's, and come with each call: no copy is kept.
+// The first slots are the variables'; the others stay unset. The variables come with each call: the registers are copied, and the slice belongs to the controller that holds both.
 #[derive(Clone, Copy)]
 pub struct Registers {
     cr: Value,

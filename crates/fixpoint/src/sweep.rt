@@ -83,7 +83,7 @@ impl<'p> Sweep<'p> {
             return false;
         }
         let mut changed = self.bring_start(cells);
-        // by number, which finds the row of a statement and of its targets
+        // by number: a statement is read together with its row
         for number in 0..self.statements.len() {
             changed |= self.bring_from(cells, number);
         }

@@ -11,6 +11,7 @@ pub(crate) fn is_option(word: &[u8]) -> bool
     matches!(word, [b'-', b'-', ..])
 }
 
+// An Option says all: TryFrom would want an error type beside it.
 pub(crate) fn job_named(word: &[u8]) -> Option<Job>
     ensures { result ≡ job_named word.now }
 {

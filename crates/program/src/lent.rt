@@ -10,7 +10,7 @@ pub mod access;
 pub mod making;
 pub mod ranging;
 
-// The first records of each slice are the program's, where its text was read; else there is the fault.
+// The first records of each slice are the program's, where its text was read; else there is the fault, since reading always answers a program.
 // The slices stay whole, with counts beside them, so that contracts can say what all of the caller's records hold.
 #[derive(Drop)]
 pub struct Program<'r> {

@@ -11,7 +11,7 @@ use program::Program;
 use reading::fill::MOST_BYTES;
 use words::{Reader, Word};
 
-// Where the ranges of a text end.
+// Where the ranges of a text end. The definition of what a text sets takes it, and so does the code.
 #[derive(Clone, Copy, PartialEq, Eq, Debug)]
 pub(crate) enum Until {
     // at the end of the text

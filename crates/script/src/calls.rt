@@ -1,4 +1,4 @@
-// The calls, each with the line that tells what it came to.
+// The calls, alone and many at a time, and the line that tells what they came to.
 ghost use Rattle.std.specs.Prelude.{◌≡◌};
 ghost use Rattle.controller.specs.Machine.{machine, code_of};
 ghost use Rattle.script.specs.Lines.{stands_as, line_for as line_for_answer};

@@ -49,7 +49,7 @@ impl From<WordFault> for ScriptFault {
 
 // What stops the carrying out of a script: its fault, or no memory for its lines.
 #[derive(Clone, Copy)]
-pub enum Ending {
+pub(crate) enum Ending {
     Failed(AllocError),
     Refused(ScriptFault),
 }

@@ -13,6 +13,7 @@ pub enum Order {
     Read,
 }
 
+// An Option says all: TryFrom would want an error type beside it.
 pub(crate) fn order_named(word: &[u8]) -> Option<Order>
     ensures { result ≡ order_named word.now }
 {

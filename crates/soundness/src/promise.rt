@@ -14,5 +14,6 @@ pub fn beside_any_passing_table<D: Domain>(program: &Program)
     ensures runs_reach { RunsReach D.Domain.ops (code program.now) }
     ensures calls_are_runs { CallsAreRuns D.Domain.ops (code program.now) }
 {
+    // called for what it says of the program: that it is formed
     let _ = program.variables();
 }

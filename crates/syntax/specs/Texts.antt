@@ -9,11 +9,6 @@ use Rattle.syntax.specs.declared.record.Constant.{Constant}
 use Rattle.syntax.specs.declared.record.Constant.TheVariants as constant
 use Rattle.syntax.specs.declared.record.Range.{Range}
 
--- the kind that a constant has
-abbrev pub kind_of : Constant → Kind
-kind_of (constant.Bool b) = kind.Bool
-kind_of (constant.Int n) = kind.Int
-
 abbrev pub class_text : Class → List ℕ
 class_text Local = codes "local"
 class_text Input = codes "input"

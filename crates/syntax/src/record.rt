@@ -1,13 +1,13 @@
 // What a program is made of: plain records that lie in the caller's memory.
 ghost use Rattle.std.specs.Prelude.{◌≡◌, Some};
-ghost use Rattle.syntax.specs.Records.{declared_as, ranged};
-ghost use Rattle.syntax.specs.Texts.{kind_of, class_text, kind_text, constant_text, range_text};
+ghost use Rattle.syntax.specs.Records.{declared_as, ranged, kind_of};
+ghost use Rattle.syntax.specs.Texts.{class_text, kind_text, constant_text, range_text};
 
 use crate::operator::{Jump, Operator, Store};
 use numbers::Int;
 use std::fmt;
 
-// A name, kept by its place and its length in the text.
+// A name, kept by its place and its length in the text: the records outlive the text.
 #[derive(Clone, Copy)]
 pub struct Name {
     pub place: usize,

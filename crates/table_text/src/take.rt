@@ -23,6 +23,7 @@ fn put<D: Notation>(index: usize, cell: Cell<D>, cells: &mut [Cell<D>]) -> usize
     ensures is { result ≡ next_index index (length cells.old) }
     ensures cells { cells.new ≡ slice_set cells.old index cell }
 {
+    // by index: after a loan by get_mut a proof knows the length of the cells, and none of them
     if index < cells.len() {
         cells[index] = cell;
         index + 1

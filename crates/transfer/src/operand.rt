@@ -25,7 +25,7 @@ fn variable_cell<D: Domain>(row: &[Cell<D>], index: usize) -> Cell<D>
 {
     index
         .checked_add(1)
-        .map_or(Cell::nothing(), |place| cell_at(row, place))
+        .map_or_else(Cell::nothing, |place| cell_at(row, place))
 }
 
 // The operand of an operation; unset where it has none.

@@ -62,7 +62,7 @@ pub enum Class {
     Other,
 }
 
-// The words that are as long as the bytes behind the first go on with them; no closures, so that contracts can name the test.
+// The words that are as long as the bytes behind the first go on with them. The definition of where a word ends takes one of them, and so does the code.
 #[derive(Clone, Copy)]
 pub enum Run {
     Name,

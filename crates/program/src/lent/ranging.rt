@@ -24,7 +24,7 @@ impl<'r> Program<'r> {
         let index = self
             .input(position)
             .ok_or(RangeFault::NoIntInput(position))?;
-        // a copy is changed and written back, since an element beside a ghost field cannot be lent
+        // a copy is changed and written back: with the element lent in place it was not proved that the program stays formed
         let mut variable = self.variables[index];
         if !is_int(variable.declaration().initial) {
             return Err(RangeFault::NoIntInput(position));

@@ -122,7 +122,7 @@ impl<'t, 'r> Draft<'t, 'r> {
         Ok(())
     }
 
-    // Looks whether there is a place for a statement that is to come.
+    // Goes on with a statement that is to come, if there is a place for it.
     fn open_statement(&mut self, place: usize, stage: Stage) -> Result<(), ProgramFault>
         ensures { Becomes (if_statement_fits (draft self.old) place (entered (draft self.old) stage)) result self.old self.new }
     {
