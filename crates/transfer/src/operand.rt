@@ -23,9 +23,10 @@ pub fn variable_at(variables: &[Variable], index: usize) -> Variable
 fn variable_cell<D: Domain>(row: &[Cell<D>], index: usize) -> Cell<D>
     ensures { result ≡ slice_index_or row.now (index + 1) (nothing D.ops) }
 {
-    index
-        .checked_add(1)
-        .map_or_else(Cell::nothing, |place| cell_at(row, place))
+    match index.checked_add(1) {
+        Some(place) => cell_at(row, place),
+        None => Cell::nothing(),
+    }
 }
 
 // The operand of an operation; unset where it has none.
