@@ -18,6 +18,7 @@ pub fn grow<D: Domain>(own: Cell<D>, given: Cell<D>, widening: bool) -> Cell<D>
 }
 
 // Brings a cell to its target, and says whether the target did not take it in as it was.
+#[inline]
 pub fn take_in<D: Domain>(target: &mut Cell<D>, given: Cell<D>, widening: bool) -> bool
     ensures cell { target.new ≡ taken_in D.ops widening target.old given }
     ensures changed { result ≡ not (cell_within D.ops given target.old) }
