@@ -21,7 +21,8 @@ use Rattle.soundness.specs.Reachable.{Reachable, first, next, again, at_start, R
 use Rattle.soundness.proofs.Sizes.{Kept, KeptOk, perform_kept}
 use Rattle.soundness.proofs.Targets.{target-inside}
 use Rattle.soundness.proofs.Covers.{row-covers, reached}
-use Rattle.soundness.proofs.Lengths.{row-long, start-long, return-long, carried-long}
+use Rattle.table_check.proofs.Lengths.{start-length, return-length, carried-length}
+use Rattle.soundness.proofs.Lengths.{row-long}
 
 -- a state before a statement: the statement is there, numbers are inside INT, and each variable has a place
 pub record Sane (p : Code) (k : ℕ) (s : State) : Type 0 where
@@ -72,14 +73,14 @@ module _ (p : Code) (formed : Formed p.variables p.statements) where
     taken row k s b long t e = row-covers o law row (row_of k) s b.sized (omega (arith, long, row-wide k b.inside)) (t (reached o law row s b.sized e)) e
 
     from_start : (new : List _) → Reachable p 0 (at_start new) → 0 < length p.statements → CoversState o (start_row o p.variables) (at_start new) → CoversState o (row_of 0) (at_start new)
-    from_start new r h e = taken (start_row o p.variables) 0 (at_start new) (reach-sane 0 (at_start new) r) (start-long o p.variables) (passes.starts h) e
+    from_start new r h e = taken (start_row o p.variables) 0 (at_start new) (reach-sane 0 (at_start new) r) (start-length o p.variables) (passes.starts h) e
 
     on-next : (k : ℕ) (s : State) (edge : Edge) (t : State) → Sane p k s → CoversState o (row_of k) s → (op k ≡ Return → ⊥) → perform p.variables (op k) s ≡ Ok (edge, t) → CoversState o (row_of (target_of k (op k) edge)) t
     on-next k s edge t b c n e =
         let f = simulates o law p.variables p.statements (op k) (row_of k) s (before k s b c) edge t e n in
         let row = f.0 in
         let live = reached o law (row_of k) s b.sized c in
-        taken row (target_of k (op k) edge) t (next_sane k s edge t b n e) (carried-long o p.variables (row_of k) (row-wide k b.inside) (op k) edge row f.1) (passes.carries k b.inside live edge row f.1) f.2
+        taken row (target_of k (op k) edge) t (next_sane k s edge t b n e) (carried-length o p.variables (row_of k) (row-wide k b.inside) (op k) edge row f.1) (passes.carries k b.inside live edge row f.1) f.2
 
     -- a return carries the row that it leaves
     return-carries : (k : ℕ) (s : State) → Sane p k s → CoversState o (row_of k) s → carried o p.variables (row_of k) Return way.Jump ≡ Some (return_row o p.variables (row_of k))
@@ -98,7 +99,7 @@ module _ (p : Code) (formed : Formed p.variables p.statements) where
         let b = reach-sane k s r in
         let c = covered k s r in
         let e = simulates-return o law p.variables p.statements (row_of k) s (subst (λ x. Before o p.variables p.statements x (row_of k) s) q (before k s b c)) new g.started in
-        taken (return_row o p.variables (row_of k)) 0 (at_start new) (reach-sane 0 (at_start new) (again k s new r q g)) (return-long o p.variables (row_of k)) (on_return k s b c q) e
+        taken (return_row o p.variables (row_of k)) 0 (at_start new) (reach-sane 0 (at_start new) (again k s new r q g)) (return-length o p.variables (row_of k)) (on_return k s b c q) e
 
 -- for every kind of sets that keeps the laws
 pub reachable-covered : {S : Type 0} (o : Ops S) → Lawful o → (p : Code) → Formed p.variables p.statements → ReachableCovered o p

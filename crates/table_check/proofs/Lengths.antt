@@ -1,5 +1,5 @@
 -- How long carried rows are.
-use Rattle.std.proofs.Common.{◌≡◌, suc, ◌+◌, ◌||◌, List, [], ◌∷◌, length, drop, set, Some, None, Option, refl, ap, ◌∙◌, subst, arith, length-set}
+use Rattle.std.proofs.Common.{◌≡◌, ◌+◌, ◌||◌, List, [], ◌∷◌, length, drop, set, Some, None, Option, refl, ap, ◌∙◌, subst, arith, length-set}
 use Rattle.std.proofs.lemmas.Bool.{cond_both}
 use Rattle.domain.specs.Domain.{Ops}
 use Rattle.syntax.specs.declared.operator.Jump.{Jump}
@@ -18,6 +18,7 @@ use Rattle.transfer.specs.Rows.{width, start_row, initial_cell, initial_cells, r
 use Rattle.transfer.specs.Transfer.{on_fall, on_jump, jump_carried, carried_by, carried, return_row, left_of, right_of, stored_cell}
 use Rattle.transfer.specs.Carrying.{changed_row}
 use Rattle.transfer.proofs.Changes.{restart-length}
+use Rattle.table.proofs.Starting.{initial-length}
 
 module _ {S : Type 0} (o : Ops S) (vars : List Variable) where
   -- a row that is carried, where one is, has the program's width
@@ -69,13 +70,9 @@ module _ {S : Type 0} (o : Ops S) (vars : List Variable) where
     changed-length x (change.Variable i c) = length-set (set row 0 x) (i + 1) c ∙ result-length x
     changed-length x change.Inputs = return-length row
 
-initials-length : {S : Type 0} (o : Ops S) (vars : List Variable) → length (initial_cells o vars) ≡ length vars
-initials-length o [] = refl
-initials-length o (v ∷ vars) = ap suc (initials-length o vars)
-
 -- the start row has the program's width
 pub start-length : {S : Type 0} (o : Ops S) (vars : List Variable) → length (start_row o vars) ≡ width vars
-start-length o vars = omega (arith, initials-length o vars)
+start-length o vars = omega (arith, initial-length o vars)
 
 restart-starts : {S : Type 0} (o : Ops S) (vars : List Variable) → restart_cells o vars [] ≡ initial_cells o vars
 restart-starts o [] = refl
