@@ -1,7 +1,7 @@
 -- The ways on from a statement of a program lead to its statements.
-use Rattle.std.proofs.Common.{◌≡◌, ℕ, ◌+◌, ◌<◌, true, false, cond, ◌||◌, List, length, get_or, is_some, Some, None, Option, sym, ap, ◌∙◌, inl, inr, arith}
+use Rattle.std.proofs.Common.{◌≡◌, ℕ, ◌+◌, ◌<◌, true, cond, ◌||◌, List, length, get_or, is_some, Some, None, Option, sym, ap, ◌∙◌, inl, inr, arith}
 use Rattle.std.proofs.lemmas.List.{get_or_past}
-use Rattle.std.proofs.lemmas.Bool.{cases_lt, cond_both}
+use Rattle.std.proofs.lemmas.Bool.{cases_lt, cond_both, true≢false}
 use Rattle.domain.specs.Domain.{Ops}
 use Rattle.syntax.specs.declared.record.Operation.{Operation}
 use Rattle.syntax.specs.declared.record.Operation.TheVariants.{Return, Not, Label, Apply, Store, Jump}
@@ -23,13 +23,10 @@ label-there : (ss : List Statement) (t : ℕ) → is_some (label_name (get_or ss
 label-there ss t e =
     elim (cases_lt t (length ss)) [
       | inl h ↦ h
-      | inr h ↦
-          let z : false ≡ true = ap (λ (s : Statement). is_some (label_name s)) (sym (get_or_past ss t no_statement h)) ∙ e in
-          let o : ◌≡◌ {A = ℕ} 0 1 = cc in
-          absurd (omega arith)
+      | inr h ↦ absurd (true≢false (sym e ∙ ap (λ (s : Statement). is_some (label_name s)) (get_or_past ss t no_statement h)))
     ]
 
-jump-inside : (v : ℕ) (ss : List Statement) (k : ℕ) (op : Operation) → k < length ss → names_only v ss op ≡ true → target_of k op way.Jump < length ss
+pub jump-inside : (v : ℕ) (ss : List Statement) (k : ℕ) (op : Operation) → k < length ss → names_only v ss op ≡ true → target_of k op way.Jump < length ss
 jump-inside v ss k Return h n = omega arith
 jump-inside v ss k Not h n = omega arith
 jump-inside v ss k (Label name) h n = omega arith
@@ -43,12 +40,12 @@ module _ {S : Type 0} (o : Ops S) (vars : List Variable) where
   no-fall row next Return r e =
       let b = is_vacant o (left_of o vars row Return) || is_vacant o (right_of o vars row Return) in
       let f : cond b None None ≡ Some next = e in
-      cond_both b None None (λ (p : Option (List (Cell S))). p ≡ Some next → ⊥) (λ x y. let z : ◌≡◌ {A = ℕ} 0 1 = cc in omega arith) (λ x y. let z : ◌≡◌ {A = ℕ} 0 1 = cc in omega arith) f
-  no-fall row next Not r e = let z : ◌≡◌ {A = ℕ} 0 1 = cc in absurd (omega arith)
-  no-fall row next (Label name) r e = let z : ◌≡◌ {A = ℕ} 0 1 = cc in absurd (omega arith)
-  no-fall row next (Apply p x) r e = let z : ◌≡◌ {A = ℕ} 0 1 = cc in absurd (omega arith)
-  no-fall row next (Store t x) r e = let z : ◌≡◌ {A = ℕ} 0 1 = cc in absurd (omega arith)
-  no-fall row next (Jump j t) r e = let z : ◌≡◌ {A = ℕ} 0 1 = cc in absurd (omega arith)
+      cond_both b None None (λ (p : Option (List (Cell S))). p ≡ Some next → ⊥) (λ x y. cc) (λ x y. cc) f
+  no-fall row next Not r e = absurd cc
+  no-fall row next (Label name) r e = absurd cc
+  no-fall row next (Apply p x) r e = absurd cc
+  no-fall row next (Store t x) r e = absurd cc
+  no-fall row next (Jump j t) r e = absurd cc
 
   module _ (ss : List Statement) (formed : Formed vars ss) (k : ℕ) (h : k < length ss) (row next : List (Cell S)) where
     target-inside : (edge : Edge) → carried o vars row (operation_at ss k) edge ≡ Some next → target_of k (operation_at ss k) edge < length ss
