@@ -84,7 +84,7 @@ module _ {S : Type 0} (o : Ops S) (p : Code) where
 
   -- where the sweeps settle, no place fails
   settled-good : (m n k : ℕ) (cells : List (Cell S)) → Good m (settled_from (swept o p) k n cells)
-  settled-good m zero k cells = λ h. let z : ◌≡◌ {A = ℕ} 0 1 = cc in let none : ⊥ = omega arith in absurd none
+  settled-good m zero k cells = λ h. absurd cc
   settled-good m (suc n) k cells =
       let step = swept o p (k + 1) cells in
       cond_both step.changed (settled_from (swept o p) (k + 1) n step.cells) (record { cells = step.cells; answer = Ok (k + 1) }) (Good m)
@@ -106,7 +106,7 @@ module _ {S : Type 0} (o : Ops S) where
   passes-in p sweeps cells n =
       cond_both (eqb (length cells) (table_size p)) (settled o p sweeps) (refusal p cells) (λ (s : Settlement S). s.answer ≡ Ok n → Passes o p s.cells)
       (λ b. settled-tables-pass p sweeps n)
-      (λ b e. let z : ◌≡◌ {A = ℕ} 0 1 = cc in let none : ⊥ = omega arith in absurd none)
+      (λ b e. absurd cc)
 
   module _ (p : Code) (vs : List Variable) (ss : List Statement) (ve : vs ≡ p.variables) (se : ss ≡ p.statements) (sweeps : ℕ) (cells : List (Cell S)) where
     abbrev given : Code

@@ -20,7 +20,7 @@ use Rattle.table_check.specs.Failures.{or_else, first_outside, fails_at, fails_i
 use Rattle.table_check.proofs.Lengths.{carried-length, start-length}
 
 some-none : {X : Type 0} (n : ℕ) → Some n ≡ None → X
-some-none n e = let z : ◌≡◌ {A = ℕ} 0 1 = cc in let no : ⊥ = omega arith in absurd no
+some-none n e = absurd cc
 
 -- parts of an answer that there is no place
 unless-none : (b : Truth) (x : Option ℕ) (n : ℕ) → cond b x (Some n) ≡ None → (b ≡ true) × (x ≡ None)
@@ -28,7 +28,7 @@ unless-none true x n e = (refl, e)
 unless-none false x n e = some-none n e
 
 skip-none : (b : Truth) (x : Option ℕ) → cond b None x ≡ None → b ≡ false → x ≡ None
-skip-none true x e f = let z : ◌≡◌ {A = ℕ} 0 1 = cc in let no : ⊥ = omega arith in absurd no
+skip-none true x e f = absurd cc
 skip-none false x e f = e
 
 or_else-none : (x y : Option ℕ) → or_else x y ≡ None → (x ≡ None) × (y ≡ None)

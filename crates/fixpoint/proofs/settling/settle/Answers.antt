@@ -1,4 +1,4 @@
-use Rattle.std.proofs.Common.{◌≡◌, ℕ, List, sym, ap, ◌∙◌, subst, arith}
+use Rattle.std.proofs.Common.{List, sym, ap, ◌∙◌, subst}
 use Rattle.program.specs.Model.{code}
 use Rattle.cells.specs.declared.cell.Cell.{Cell}
 use Rattle.table_check.specs.Passing.{Passes}
@@ -21,7 +21,7 @@ returns-then-cells-size g c =
     record {
       cells = ap (λ r. r.cells) is;
       answer = ap (λ r. r.answer) is;
-      settled_tables_pass = λ n e. let z : ◌≡◌ {A = ℕ} 0 1 = cc in let none : ⊥ = omega arith in absurd none;
+      settled_tables_pass = λ n e. absurd cc;
     }
 
 pub returns : goal.returns
