@@ -80,9 +80,10 @@ impl<D: Domain> Cell<D> {
     pub fn within(self, other: Cell<D>) -> bool
         ensures { result ≡ cell_within D.ops self other }
     {
-        (!self.unset || other.unset)
-            && (!self.can_be_false || other.can_be_false)
-            && (!self.can_be_true || other.can_be_true)
+        // the flags by `&` and `|`, without a branch for each: this is asked of every cell of a row
+        (!self.unset | other.unset)
+            & (!self.can_be_false | other.can_be_false)
+            & (!self.can_be_true | other.can_be_true)
             && self.numbers.within(other.numbers)
     }
 
@@ -113,7 +114,8 @@ impl<D: Domain> Cell<D> {
     pub fn is_vacant(self) -> bool
         ensures { result ≡ is_vacant D.ops self }
     {
-        !self.unset && !self.can_be_false && !self.can_be_true && self.numbers.is_empty()
+        // as in `within`
+        !self.unset & !self.can_be_false & !self.can_be_true && self.numbers.is_empty()
     }
 
     // Whether a value of the sort may be allowed.

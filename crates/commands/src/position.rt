@@ -17,7 +17,14 @@ fn line_after(bytes: &[u8]) -> usize
     requires { length bytes.now ≤ 65535 }
     ensures { result ≡ line_after bytes.now }
 {
-    bytes.iter().filter(|b| **b == b'\n').count() + 1
+    // a loop: `count` of a `filter` looks at one byte a time, and a listing asks this of the text before each statement
+    let mut line = 1;
+    for b in bytes {
+        if *b == b'\n' {
+            line += 1;
+        }
+    }
+    line
 }
 
 // A loop, since the count of what stands behind the last line feed, taken from the back, got no proof.

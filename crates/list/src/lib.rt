@@ -13,7 +13,7 @@ mod operations;
 
 use domain::{Domain, Truth};
 use numbers::Int;
-use numbers_of::{ascends, has_all, place_of, shifted, stands_at};
+use numbers_of::{ascends, has, has_all, place_of, shifted, stands_at};
 use operations::{difference, product, quotient, sum};
 
 // All INTs, or the first `count` of the numbers, which ascend strictly. A record out of that form contains nothing.
@@ -234,7 +234,7 @@ impl Domain for NumberList {
     }
 
     fn contains(self, n: Int) -> bool {
-        self.is_everything() || self.listed().contains(&n)
+        self.is_everything() || has(self.listed(), n)
     }
 
     fn within(self, other: NumberList) -> bool {

@@ -1,7 +1,7 @@
 // Numbers in a slice.
 ghost use Rattle.std.specs.Prelude.{◌≡◌, ◌<◌, ◌≤◌, length};
 ghost use Rattle.list.specs.Insertion.{place, stands_at, shifted_in};
-ghost use Rattle.list.specs.Numbers.{all_in, ascending};
+ghost use Rattle.list.specs.Numbers.{member, all_in, ascending};
 
 use numbers::Int;
 
@@ -12,11 +12,18 @@ pub(crate) fn ascends(numbers: &[Int]) -> bool
     numbers.is_sorted_by(|a, b| a < b)
 }
 
+// Whether `n` is among the numbers; `any` ends where it is found, and std's `contains` goes through INTs by groups.
+pub(crate) fn has(numbers: &[Int], n: Int) -> bool
+    ensures { result ≡ member n numbers.now }
+{
+    numbers.iter().any(|x| *x == n)
+}
+
 // Whether every number is among the others.
 pub(crate) fn has_all(others: &[Int], numbers: &[Int]) -> bool
     ensures { result ≡ all_in numbers.now others.now }
 {
-    numbers.iter().all(|n| others.contains(n))
+    numbers.iter().all(|n| has(others, *n))
 }
 
 // How many numbers stand at the front that are below `n`.

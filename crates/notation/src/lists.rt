@@ -39,9 +39,12 @@ fn append_numeral(list: Option<NumberList>, bytes: &[u8]) -> Option<NumberList>
 fn read_numbers(bytes: &[u8]) -> Option<NumberList>
     ensures { result ≡ read_numbers bytes.now }
 {
-    bytes
-        .split(|b| *b == b',')
-        .fold(Some(NumberList::NONE), append_numeral)
+    // a loop, which ends at the first word that is no number, or a ninth: `fold` goes through all
+    let mut list = NumberList::NONE;
+    for word in bytes.split(|b| *b == b',') {
+        list = append_numeral(Some(list), word)?;
+    }
+    Some(list)
 }
 
 fn read_list(bytes: &[u8]) -> Option<NumberList>

@@ -16,10 +16,15 @@ pub(crate) fn input_at(variables: &[Variable], position: usize) -> Option<usize>
     ensures is { result ≡ input_from 0 variables.now position }
     ensures within { IfSome result (λ i. i < length variables.now) }
 {
-    variables
-        .iter()
-        .enumerate()
-        .filter(|(_, variable)| variable.declaration().class == Class::Input)
-        .map(|(index, _)| index)
-        .nth(position)
+    // a loop, which ends at the input: `nth` of a chain of `enumerate`, `filter` and `map` took half as many instructions more
+    let mut left = position;
+    for (index, variable) in variables.iter().enumerate() {
+        if variable.declaration().class == Class::Input {
+            if left == 0 {
+                return Some(index);
+            }
+            left -= 1;
+        }
+    }
+    None
 }

@@ -41,7 +41,7 @@ fn word_length(bytes: &[u8]) -> usize
 fn ends_line(bytes: &[u8]) -> bool
     ensures { result ≡ list_any (λ b. b == 10) bytes.now }
 {
-    bytes.iter().any(|b| *b == b'\n')
+    bytes.contains(&b'\n')
 }
 
 // The blanks from a place on.

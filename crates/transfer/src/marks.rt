@@ -60,7 +60,7 @@ impl Marks {
 fn refuses<D: Domain>(operation: Operation, left: Cell<D>, right: Cell<D>, sort: Sort) -> bool
     ensures { result ≡ any_sort (λ b. has D.ops left sort && (has D.ops right b && not (accepted operation sort b))) }
 {
-    any_sort(|other| left.has(sort) && right.has(other) && !accepts(operation, sort, other))
+    left.has(sort) && any_sort(|other| right.has(other) && !accepts(operation, sort, other))
 }
 
 // K: whether the current result and the operand allow parts that are not accepted together.

@@ -37,6 +37,27 @@ closing-first b c rest e = grind (arith, common_steps)
 closing-next : (b c : ℕ) (rest : List ℕ) → closes b c ≡ false → closing (b ∷ c ∷ rest) ≡ option_map (λ n. n + 1) (closing (c ∷ rest))
 closing-next b c rest e = grind (arith, common_steps)
 
+-- one turn of the search for them, k bytes on
+moved : (k : ℕ) (o : Option ℕ) → option_map (λ n. n + k) (option_map (λ n. n + 1) o) ≡ option_map (λ n. n + (k + 1)) o
+moved k None = refl
+moved k (Some n) = ap (λ m. Some m) (omega arith)
+
+pub closing-further : (xs : List ℕ) (k : ℕ) → k + 1 < length xs → closes (get_or xs k 0) (get_or xs (k + 1) 0) ≡ false → option_map (λ n. n + k) (closing (drop k xs)) ≡ option_map (λ n. n + (k + 1)) (closing (drop (k + 1) xs))
+closing-further xs k h e =
+    let rest : drop (k + 1) xs ≡ get_or xs (k + 1) 0 ∷ drop (k + 2) xs = drop_more xs (k + 1) 0 h ∙ ap (λ j. get_or xs (k + 1) 0 ∷ drop j xs) (omega arith) in
+    ap (λ l. option_map (λ n. n + k) (closing l)) (two xs k h)
+    ∙ ap (option_map (λ n. n + k)) (closing-next (get_or xs k 0) (get_or xs (k + 1) 0) (drop (k + 2) xs) e)
+    ∙ moved k _
+    ∙ ap (λ l. option_map (λ n. n + (k + 1)) (closing l)) (sym rest)
+
+pub closing-nowhere : (xs : List ℕ) (k : ℕ) → length xs ≤ k + 1 → closing (drop k xs) ≡ None
+closing-nowhere xs k h = short (drop k xs) (omega (arith, length-drop k xs))
+  where
+    short : (left : List ℕ) → length left ≤ 1 → closing left ≡ None
+    short [] l = refl
+    short (b ∷ []) l = refl
+    short (b ∷ c ∷ rest) l = absurd (omega arith)
+
 after-next : (q p b c : ℕ) (rest : List ℕ) (o : Option ℕ) → after_comment q (p + 1) o (c ∷ rest) ≡ after_comment q p (option_map (λ n. n + 1) o) (b ∷ c ∷ rest)
 after-next q p b c rest None = refl
 after-next q p b c rest (Some n) =

@@ -8,7 +8,7 @@ use crate::word::{Class, Run};
 pub fn is_blank(b: u8) -> bool
     ensures { result ≡ blank b }
 {
-    matches!(b, b' ' | b'\t' | b'\r' | b'\n')
+    b == b' ' || b == b'\t' || b == b'\r' || b == b'\n'
 }
 
 fn begins_name(b: u8) -> bool

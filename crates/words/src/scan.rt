@@ -8,13 +8,18 @@ use crate::bytes::{byte_at, class_of, closes_comment, goes_on};
 use crate::word::{Class, Run, Word, WordFault};
 
 // How many bytes of a comment stand before the two that close it; none where it is never closed.
+// By index, each second byte read only behind a star: a `zip` of the bytes and those behind them took twice as many instructions, and so did a `for`.
 pub(crate) fn closing(inner: &[u8]) -> Option<usize>
     ensures { result ≡ closing inner.now }
 {
-    inner
-        .iter()
-        .zip(inner.iter().skip(1))
-        .position(|(b, c)| closes_comment(*b, *c))
+    let mut length = 0;
+    while length + 1 < inner.len() {
+        if closes_comment(inner[length], inner[length + 1]) {
+            return Some(length);
+        }
+        length += 1;
+    }
+    None
 }
 
 // How many bytes at the front go on with a word.
