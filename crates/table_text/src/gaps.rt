@@ -41,6 +41,7 @@ fn word_length(bytes: &[u8]) -> usize
 fn ends_line(bytes: &[u8]) -> bool
     ensures { result ≡ list_any (λ b. b == 10) bytes.now }
 {
+    // `contains` looks at many bytes at a time, `any` at one
     bytes.contains(&b'\n')
 }
 

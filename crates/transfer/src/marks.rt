@@ -60,6 +60,7 @@ impl Marks {
 fn refuses<D: Domain>(operation: Operation, left: Cell<D>, right: Cell<D>, sort: Sort) -> bool
     ensures { result ≡ any_sort (λ b. has D.ops left sort && (has D.ops right b && not (accepted operation sort b))) }
 {
+    // the current result first: for a sort that it has not, the operand is not looked at
     left.has(sort) && any_sort(|other| right.has(other) && !accepts(operation, sort, other))
 }
 

