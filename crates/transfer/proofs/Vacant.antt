@@ -17,6 +17,7 @@ module _ {X : Type 0} (p : X → Bool) (d : X) where
   any-by_index xs n e =
       ap (λ k. list_any (λ i. p (get_or xs i d)) (range_with_len 0 k)) e ∙ from (λ i. p (get_or xs i d)) xs 0 (λ i l. ap (λ k. p (get_or xs k d)) (zero-add i))
 
+module _ {X : Type 0} (p : X → Bool) where
   -- where one item is changed, the test is one of those before it, of the new one, and of those behind
   pub any-changed : (xs : List X) (i : ℕ) (x : X) → i < length xs → list_any p (set xs i x) ≡ (list_any p (take i xs) || (p x || list_any p (drop (i + 1) xs)))
   any-changed xs i x h =
